@@ -1,0 +1,8 @@
+// The text form of formulas and proofs, read and written byte by byte.
+// It promises that what is written is read back as what it was.
+ghost use Rattle.dimacs.specs.Statements.{There-and-back};
+
+// A formula that is written is read as what it was.
+pub fn there_and_back()
+    ensures { λ _. ⌜ There-and-back ⌝ }
+{}

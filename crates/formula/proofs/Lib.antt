@@ -1,0 +1,9 @@
+pub mod Rows
+pub mod Soundness
+pub mod Completeness
+pub mod ModelOrProof
+pub mod Learned
+pub mod Deletions
+pub mod Literals
+pub mod Tables
+pub mod Examples

@@ -1,0 +1,31 @@
+// Clauses in lent memory: rows of literals, and the place of one in a table as a value.
+ghost use mathlib.Core.Path.{_≡_};
+ghost use lib.ListN.{take, drop};
+ghost use Rattle.formula.specs.Logic.{has};
+use crate::table::part;
+
+// Where a clause stands in a table, and how long it is.
+#[derive(Clone, Copy)]
+pub struct Place {
+    pub start: u64,
+    pub len: u64,
+}
+
+// The literals of the clause at a place.
+pub fn literals_at(table: &[u64], place: Place) -> &[u64]
+    ensures { λ r. ⌜ now r ≡ take (place .len) (drop (place .start) (now (table .entry))) ⌝ }
+{
+    part(table, place.start, place.len)
+}
+
+// Whether a literal is in a clause.
+pub fn contains(clause: &[u64], lit: u64) -> bool
+    ensures { λ r. ⌜ r ≡ has (now (clause .entry)) lit ⌝ }
+{
+    for x in clause {
+        if *x == lit {
+            return true;
+        }
+    }
+    false
+}
