@@ -1,3 +1,4 @@
 pub mod Logic
+pub mod Arena
 pub mod Statements
 pub mod Examples

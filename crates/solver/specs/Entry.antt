@@ -10,6 +10,8 @@ use Rattle.formula.specs.Logic.{pick, every, any}
 use Rattle.solver.specs.House.{Command, new-var, add, assume, solve, model-of, failed-core, read-file, print-it, prove}
 use Rattle.solver.specs.declared.Reply.{Reply}
 use Rattle.solver.specs.declared.Reply.the-variants.{Term, Refused}
+use Rattle.solver.specs.State.{zeros}
+use Rattle.solver.specs.Machine.{machine-step}
 use Rattle.solver.specs.Promise.{Engine, Event, said, next, Act, shows, writes, done, refused, Move}
 use Rattle.solver.specs.declared.Told.{Told}
 use Rattle.solver.specs.declared.Told.the-variants.{Shows, Writes, Done, No}
@@ -34,9 +36,9 @@ Term-says n false r = r ≡ Refused 1
 abbrev pub term-fits : ℕ → Bool
 term-fits n = leb n 1048576
 
--- THE MACHINE ITSELF. What stands here now does nothing; the machine that is grown puts its own in its place, and Whole is owed of that.
+-- the machine itself: 524,288 numbers, all 0 at the start
 unfoldable pub own : Engine
-own = record { start = []; step = λ m ev. record { memory = m; act = refused 2 } }
+own = record { start = zeros 524288; step = λ m ev. machine-step m ev }
 
 -- 0 a new variable, 1 a clause, 2 assume, 3 solve, 4 the model, 5 the core, 6 a file, 7 print, 8 prove, 9 go on
 unfoldable pub event-of : ℕ → List ℕ → List ℕ → Event

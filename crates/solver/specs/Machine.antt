@@ -1,0 +1,97 @@
+-- The machine: what each command and each going-on does to the state, and what it tells. Definitions only, total on any state;
+-- the theorem `Whole` says what they mean.
+use mathlib.Core.Bool.{Bool, true, false, _&&_}
+use mathlib.Core.List.{List, [], _∷_}
+use Prim.Native.Nat.{ℕ, suc, _+_, _-_, min}
+use lib.Dec.{eqb, ltb, leb}
+use lib.ListN.{length, getD, set}
+use lib.Seq.{sets}
+use Rattle.formula.specs.Logic.{pick, none-of, Clause}
+use Rattle.formula.specs.Arena.{clause-row}
+use Rattle.dimacs.specs.Text.{row-vars, larger}
+use Rattle.dimacs.specs.Statements.{lits-fit}
+use Rattle.search.specs.declared.plain.Finding.{Finding}
+use Rattle.search.specs.declared.plain.Finding.the-variants.{Exhausted, Back, Conflict, Failed, Open, Full}
+use Rattle.search.specs.Plain.{fresh, look, mark, marked, model-row}
+use Rattle.search.specs.Plain as plain
+use Rattle.solver.specs.House.{Command, new-var, add, assume, solve, model-of, failed-core, read-file, print-it, prove}
+use Rattle.solver.specs.Promise.{Event, said, next, Act, shows, writes, done, refused, Move}
+use Rattle.solver.specs.State.{State, view, flat, zeros, with-assumptions, with-core, with-model, with-arena, with-work, num-vars, num-clauses, arena-len, num-assumptions, verdict, phase, cursor, with-num-vars, with-num-clauses, with-arena-len, with-num-assumptions, with-verdict, with-phase, with-cursor, formula, assumed}
+
+pub record Turn : Type 0 where
+  pub state : State
+  pub act : Act
+
+abbrev pub turn : State → Act → Turn
+turn s a = record { state = s; act = a }
+
+-- COMMANDS, once they are not refused
+-- a variable more; a yes is dropped
+abbrev pub after-new : State → State
+after-new s = with-phase (with-verdict (with-num-vars s (num-vars s + 1)) (pick (eqb (verdict s) 1) 0 (verdict s))) 0
+
+-- a clause more; a no stays
+abbrev pub after-add : State → Clause → State
+after-add s c =
+    with-phase (with-verdict (with-arena-len (with-num-clauses (with-num-vars (with-arena s (sets (s .arena) (arena-len s) (clause-row c)))
+    (larger (num-vars s) (row-vars c))) (num-clauses s + 1)) (arena-len s + (length c + 1))) (pick (leb 2 (verdict s)) (verdict s) 0)) 0
+
+-- others assumed; a no with an empty core stays
+abbrev pub after-assume : State → List ℕ → State
+after-assume s ls =
+    with-phase (with-verdict (with-num-assumptions (with-num-vars (with-assumptions s (sets (s .assumptions) 0 ls))
+    (larger (num-vars s) (row-vars ls))) (length ls)) (pick (eqb (verdict s) 3) 3 0)) 0
+
+-- the search begins: no values, no marks
+abbrev pub search-begun : State → State
+search-begun s = with-phase (with-core (with-work s (fresh (s .work))) (zeros 1024)) 1
+
+abbrev pub clause-fits : State → Clause → Bool
+clause-fits s c = leb (num-clauses s + 1) 16384 && leb (arena-len s - num-clauses s + length c) 65536
+
+unfoldable pub on-command : State → Command → Turn
+on-command s new-var = pick (ltb (num-vars s) 16384) (turn (after-new s) (shows (num-vars s))) (turn s (refused 7))
+on-command s (add c) =
+    pick (lits-fit c && leb (length c) 1024) (pick (clause-fits s c) (turn (after-add s c) done) (turn s (refused 7))) (turn s (refused 6))
+on-command s (assume ls) = pick (lits-fit ls && leb (length ls) 1024) (turn (after-assume s ls) done) (turn s (refused 6))
+on-command s solve = pick (eqb (verdict s) 0) (turn (search-begun s) (writes [])) (turn (with-phase s 0) (shows (pick (eqb (verdict s) 1) 1 0)))
+on-command s model-of = pick (eqb (verdict s) 1) (turn (with-phase (with-cursor s 0) 2) (writes [])) (turn s (refused 4))
+on-command s failed-core = turn s (refused 2)
+on-command s (read-file bs) = turn s (refused 2)
+on-command s print-it = turn s (refused 2)
+on-command s prove = turn s (refused 2)
+
+-- GOING ON
+-- a turn of the search, by what the look at the formula found
+abbrev pub with-turn : State → Finding → State
+with-turn s f = with-core (with-work s (plain.act (s .work) f)) (mark (s .core) f)
+
+unfoldable pub searched : State → Finding → Turn
+searched s Exhausted = turn (with-phase (with-verdict s (pick (none-of (marked (s .core) (assumed s))) 3 2)) 0) (shows 0)
+searched s Back = turn (with-turn s Back) (writes [])
+searched s Conflict = turn (with-turn s Conflict) (writes [])
+searched s (Failed i) = turn (with-turn s (Failed i)) (writes [])
+searched s Open = turn (with-turn s Open) (writes [])
+searched s Full =
+    turn (with-phase (with-verdict (with-model s (sets (s .model) 0 (model-row (s .work) 0 (min (num-vars s) 16384)))) 1) 0) (shows 1)
+
+unfoldable pub searching : State → Turn
+searching s = searched s (look (formula s) (assumed s) (num-vars s) (s .work))
+
+-- the model, a literal at a time
+unfoldable pub showing : State → Turn
+showing s =
+    pick (ltb (cursor s) (num-vars s)) (turn (with-cursor s (cursor s + 1)) (shows (getD (s .model) (cursor s) 0))) (turn (with-phase s 0) done)
+
+unfoldable pub on-next : State → Turn
+on-next s = pick (eqb (phase s) 1) (searching s) (pick (eqb (phase s) 2) (showing s) (turn s done))
+
+unfoldable pub on-event : State → Event → Turn
+on-event s (said c) = on-command s c
+on-event s next = on-next s
+
+-- THE MACHINE ON ITS MEMORY, 524,288 numbers; of another length it is left as it is
+unfoldable pub machine-step : List ℕ → Event → Move
+machine-step m ev =
+    pick (eqb (length m) 524288) (record { memory = flat (on-event (view m) ev .state); act = on-event (view m) ev .act })
+    (record { memory = m; act = refused 2 })
