@@ -27,3 +27,12 @@ sets-from t row start p e = elim (cases-lt start (length t)) [
   | inl h ↦ ap (λ k. sets t k row) (omega arith)
   | inr h ↦ sets-past row t p (omega arith) ∙ sym (sets-past row t start (omega arith))
 ]
+
+-- a clause is stored as its length and its literals
+pub stored : (t row : List ℕ) (start next n : ℕ) → next ≡ min (start + 1) 18446744073709551615 → length t < 18446744073709551616 →
+    sets (set t start n) next row ≡ sets t start (n ∷ row)
+stored t row start next n e h = elim (cases-lt start (length t)) [
+  | inl l ↦ ap (λ k. sets (set t start n) k row) (omega arith)
+  | inr l ↦ (let p = set-past t start n l in
+      ap (λ (u : List ℕ). sets u next row) p ∙ (sets-past row t next (omega arith) ∙ sym (ap (λ (u : List ℕ). sets u (suc start) row) p ∙ sets-past row t (suc start) (omega arith))))
+]

@@ -1,7 +1,7 @@
 // Tables of numbers in lent memory. Nothing is refused: a read past the end is 0, a write past the end
 // changes nothing, so that code over memory of unknown contents stays safe.
 ghost use mathlib.Core.Path.{_≡_};
-ghost use lib.ListN.{getD, set, take, drop};
+ghost use lib.ListN.{getD, set, take, drop, length, replicate};
 ghost use lib.Seq.{sets};
 
 pub fn get(table: &[u64], i: u64) -> u64
@@ -40,5 +40,14 @@ pub fn write_row(table: &mut [u64], start: u64, row: &[u64])
         }
         table[i] = *value;
         i += 1;
+    }
+}
+
+// All numbers 0.
+pub fn clear(table: &mut [u64])
+    ensures { λ _. ⌜ now (table .exit) ≡ replicate (length (now (table .entry))) 0 ⌝ }
+{
+    for value in table.iter_mut() {
+        *value = 0;
     }
 }

@@ -1,0 +1,4 @@
+pub mod Scans
+pub mod Values
+pub mod Marks
+pub mod PlainEnds

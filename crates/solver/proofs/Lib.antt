@@ -1,2 +1,17 @@
 pub mod Shows
 pub mod Doubling
+pub mod MemoryMap
+pub mod RowVars
+pub mod Turning
+pub mod Steps
+pub mod Picks
+pub mod Runs
+pub mod Layouts
+pub mod Models
+pub mod Arenas
+pub mod Steadies
+pub mod Invariant
+pub mod Solving
+pub mod EachCommand
+pub mod Wholly
+pub mod Drives

@@ -3,3 +3,5 @@ pub mod Promise
 pub mod State
 pub mod Machine
 pub mod Entry
+pub mod Coded
+pub mod Running

@@ -49,13 +49,28 @@ search-begun s = with-phase (with-core (with-work s (fresh (s .work))) (zeros 10
 abbrev pub clause-fits : State → Clause → Bool
 clause-fits s c = leb (num-clauses s + 1) 16384 && leb (arena-len s - num-clauses s + length c) 65536
 
-unfoldable pub on-command : State → Command → Turn
-on-command s new-var = pick (ltb (num-vars s) 16384) (turn (after-new s) (shows (num-vars s))) (turn s (refused 7))
-on-command s (add c) =
+abbrev pub on-new-var : State → Turn
+on-new-var s = pick (ltb (num-vars s) 16384) (turn (after-new s) (shows (num-vars s))) (turn s (refused 7))
+
+abbrev pub on-add : State → Clause → Turn
+on-add s c =
     pick (lits-fit c && leb (length c) 1024) (pick (clause-fits s c) (turn (after-add s c) done) (turn s (refused 7))) (turn s (refused 6))
-on-command s (assume ls) = pick (lits-fit ls && leb (length ls) 1024) (turn (after-assume s ls) done) (turn s (refused 6))
-on-command s solve = pick (eqb (verdict s) 0) (turn (search-begun s) (writes [])) (turn (with-phase s 0) (shows (pick (eqb (verdict s) 1) 1 0)))
-on-command s model-of = pick (eqb (verdict s) 1) (turn (with-phase (with-cursor s 0) 2) (writes [])) (turn s (refused 4))
+
+abbrev pub on-assume : State → List ℕ → Turn
+on-assume s ls = pick (lits-fit ls && leb (length ls) 1024) (turn (after-assume s ls) done) (turn s (refused 6))
+
+abbrev pub on-solve : State → Turn
+on-solve s = pick (eqb (verdict s) 0) (turn (search-begun s) (writes [])) (turn (with-phase s 0) (shows (pick (eqb (verdict s) 1) 1 0)))
+
+abbrev pub on-model : State → Turn
+on-model s = pick (eqb (verdict s) 1) (turn (with-phase (with-cursor s 0) 2) (writes [])) (turn s (refused 4))
+
+unfoldable pub on-command : State → Command → Turn
+on-command s new-var = on-new-var s
+on-command s (add c) = on-add s c
+on-command s (assume ls) = on-assume s ls
+on-command s solve = on-solve s
+on-command s model-of = on-model s
 on-command s failed-core = turn s (refused 2)
 on-command s (read-file bs) = turn s (refused 2)
 on-command s print-it = turn s (refused 2)
@@ -66,24 +81,31 @@ on-command s prove = turn s (refused 2)
 abbrev pub with-turn : State → Finding → State
 with-turn s f = with-core (with-work s (plain.act (s .work) f)) (mark (s .core) f)
 
-unfoldable pub searched : State → Finding → Turn
-searched s Exhausted = turn (with-phase (with-verdict s (pick (none-of (marked (s .core) (assumed s))) 3 2)) 0) (shows 0)
+-- the last turn: a no holds whatever is assumed if no assumption had a part in it
+abbrev pub answered-no : State → Turn
+answered-no s = turn (with-phase (with-verdict s (pick (none-of (marked (s .core) (assumed s))) 3 2)) 0) (shows 0)
+
+abbrev pub answered-yes : State → Turn
+answered-yes s =
+    turn (with-phase (with-verdict (with-model s (sets (s .model) 0 (model-row (s .work) 0 (min (num-vars s) 16384)))) 1) 0) (shows 1)
+
+abbrev pub searched : State → Finding → Turn
+searched s Exhausted = answered-no s
 searched s Back = turn (with-turn s Back) (writes [])
 searched s Conflict = turn (with-turn s Conflict) (writes [])
 searched s (Failed i) = turn (with-turn s (Failed i)) (writes [])
 searched s Open = turn (with-turn s Open) (writes [])
-searched s Full =
-    turn (with-phase (with-verdict (with-model s (sets (s .model) 0 (model-row (s .work) 0 (min (num-vars s) 16384)))) 1) 0) (shows 1)
+searched s Full = answered-yes s
 
-unfoldable pub searching : State → Turn
+abbrev pub searching : State → Turn
 searching s = searched s (look (formula s) (assumed s) (num-vars s) (s .work))
 
 -- the model, a literal at a time
-unfoldable pub showing : State → Turn
+abbrev pub showing : State → Turn
 showing s =
     pick (ltb (cursor s) (num-vars s)) (turn (with-cursor s (cursor s + 1)) (shows (getD (s .model) (cursor s) 0))) (turn (with-phase s 0) done)
 
-unfoldable pub on-next : State → Turn
+abbrev pub on-next : State → Turn
 on-next s = pick (eqb (phase s) 1) (searching s) (pick (eqb (phase s) 2) (showing s) (turn s done))
 
 unfoldable pub on-event : State → Event → Turn

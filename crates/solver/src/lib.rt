@@ -1,9 +1,20 @@
 // The solver as a machine: what its commands answer, and the functions whose contracts promise it.
 ghost use mathlib.Core.Path.{_≡_};
 ghost use Prim.Native.Nat.{_≤_};
-ghost use Rattle.solver.specs.Entry.{Term-says, term-fits, smaller, term};
+ghost use lib.ListN.{length};
+ghost use Rattle.solver.specs.House.{core};
+ghost use Rattle.solver.specs.Promise.{Whole};
+ghost use Rattle.solver.specs.State.{zeros};
+ghost use Rattle.solver.specs.Entry.{own, Term-says, term-fits, smaller, term, Step-says, step-fits};
+use formula::table::clear;
 
+pub mod collected;
+mod commands;
+mod going;
+pub mod kind;
+pub mod run;
 pub mod statements;
+mod tables;
 
 #[derive(Clone, Copy)]
 pub enum Reply {
@@ -21,6 +32,11 @@ pub enum Told {
     Done,
     No(u64),
 }
+
+// The longest row of numbers or bytes, and the least room for bytes, with which a step is taken.
+const MAX_LEN: usize = 1048576;
+
+const MIN_OUT: usize = 128;
 
 // The number of the last term that is told.
 const LAST_TERM: u64 = 1 << 20;
@@ -60,4 +76,39 @@ fn term_of(n: u64) -> u64
         largest >>= 1;
     }
     1
+}
+
+// A memory cleared. From there on every list of commands is answered by the truth of clauses alone.
+pub fn begin(memory: &mut [u64])
+    ensures cleared { λ _. ⌜ now (memory .exit) ≡ zeros (length (now (memory .entry))) ⌝ }
+    ensures whole { λ _. ⌜ Whole core own ⌝ }
+{
+    clear(memory)
+}
+
+// Whether memory, kind, row, bytes and room for bytes are such as a step can be taken with.
+fn fits(memory: &[u64], kind: u64, row: &[u64], bytes: &[u8], out: &[u8]) -> bool
+    ensures { λ r. ⌜ r ≡ step-fits (now (memory .entry)) kind (now (row .entry)) (now (bytes .entry)) (now (out .entry)) ⌝ }
+{
+    memory.len() == tables::SIZE
+        && (kind <= kind::GO_ON
+            && ((row.len() <= MAX_LEN && bytes.len() <= MAX_LEN) && MIN_OUT <= out.len()))
+}
+
+// One step of the machine: a command, or going on with one. What can't be taken is answered by number 0.
+pub fn step(memory: &mut [u64], kind: u64, row: &[u64], bytes: &[u8], out: &mut [u8]) -> Told
+    ensures { λ r. ⌜ Step-says (now (memory .entry)) kind (now (row .entry)) (now (bytes .entry)) (now (out .entry)) (step-fits (now (memory .entry)) kind (now (row .entry)) (now (bytes .entry)) (now (out .entry))) r (now (memory .exit)) (now (out .exit)) ⌝ }
+{
+    if !fits(memory, kind, row, bytes, out) {
+        return Told::No(0);
+    }
+    match kind {
+        kind::NEW_VAR => commands::new_var(memory),
+        kind::ADD => commands::add(memory, row),
+        kind::ASSUME => commands::assume(memory, row),
+        kind::SOLVE => commands::solve(memory),
+        kind::MODEL => commands::model(memory),
+        kind::GO_ON => going::go_on(memory),
+        _ => Told::No(2),
+    }
 }

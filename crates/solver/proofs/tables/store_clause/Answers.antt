@@ -1,0 +1,12 @@
+use mathlib.Core.Path.{_≡_, _∙_, ap}
+use native.Mathlib.Omega.{arith}
+use lib.ListN.{length}
+use Rattle.solver.specs.State.{view, with-arena}
+use Rattle.solver.proofs.MemoryMap.{view-arena}
+use Rattle.solver.proofs.tables.store_clause.Needs as need
+
+pub returns : need.returns
+unfolding view
+returns c =
+    let h : length (c .store .last .table) ≡ 81920 = omega arith in
+    view-arena (c .args .m .now) (c .store .last .table) (c .pre) h ∙ ap (with-arena (view (c .args .m .now))) (c .store .ensures)

@@ -1,0 +1,201 @@
+// What each command does to the memory before the machine goes on by itself: new, add, assume, solve, model.
+// Each check hands on its value or leaves with the number of the refusal; what is refused changes nothing.
+ghost use mathlib.Core.Path.{_≡_};
+ghost use mathlib.Core.Bool.{_&&_};
+ghost use Prim.Native.Nat.{_+_, _≤_, _<_};
+ghost use lib.Dec.{eqb, leb, ltb};
+ghost use lib.ListN.{length};
+ghost use Rattle.std.specs.declared.option.Option.the-variants.{Some, None};
+ghost use Rattle.formula.specs.Logic.{pick};
+ghost use Rattle.formula.specs.declared.clause.Place.{Place};
+ghost use Rattle.dimacs.specs.Text.{row-vars, larger};
+ghost use Rattle.dimacs.specs.Statements.{lits-fit};
+ghost use Rattle.solver.specs.State.{view, num-vars, num-clauses, arena-len, verdict};
+ghost use Rattle.solver.specs.Machine.{on-new-var, on-add, on-assume, on-solve, on-model, clause-fits};
+ghost use Rattle.solver.specs.Coded.{Sized, Within-room, told};
+use crate::Told;
+use crate::tables::*;
+use formula::clause::Place;
+use formula::literal::variable;
+
+// Limits of what can be said.
+pub const MAX_VARS: u64 = 16384;
+
+const MAX_LITERAL: u64 = 32767;
+
+const MAX_ROW: usize = 1024;
+
+const MAX_CLAUSES: u64 = 16384;
+
+const MAX_LITERALS: u64 = 65536;
+
+// The verdict, as it stands in memory.
+pub const UNKNOWN: u64 = 0;
+
+pub const YES: u64 = 1;
+
+pub const NO: u64 = 2;
+// No, whatever is assumed.
+pub const NEVER: u64 = 3;
+
+// What the machine is at.
+pub const RESTING: u64 = 0;
+
+pub const SEARCHING: u64 = 1;
+
+pub const SHOWING: u64 = 2;
+
+fn larger_of(a: u64, b: u64) -> u64
+    ensures { λ r. ⌜ r ≡ larger a b ⌝ }
+{
+    if a < b { b } else { a }
+}
+
+// How many variables a row's literals need, if it is one that can be taken.
+fn checked_row(row: &[u64]) -> Option<u64>
+    ensures { λ r. ⌜ r ≡ pick (lits-fit (now (row .entry)) && leb (length (now (row .entry))) 1024) (Some (row-vars (now (row .entry)))) None ⌝ }
+{
+    if row.len() > MAX_ROW {
+        return None;
+    }
+    let mut vars = 0;
+    for lit in row {
+        if *lit > MAX_LITERAL {
+            return None;
+        }
+        vars = larger_of(vars, variable(*lit) + 1);
+    }
+    Some(vars)
+}
+
+// A yes doesn't outlive a new variable.
+fn without_yes(verdict: u64) -> u64
+    ensures { λ r. ⌜ r ≡ pick (eqb verdict 1) 0 verdict ⌝ }
+{
+    if verdict == YES { UNKNOWN } else { verdict }
+}
+
+// Only a no outlives a new clause.
+fn only_no(verdict: u64) -> u64
+    ensures { λ r. ⌜ r ≡ pick (leb 2 verdict) verdict 0 ⌝ }
+{
+    if NO <= verdict { verdict } else { UNKNOWN }
+}
+
+// Only a no with an empty core outlives new assumptions.
+fn only_never(verdict: u64) -> u64
+    ensures { λ r. ⌜ r ≡ pick (eqb verdict 3) 3 0 ⌝ }
+{
+    if verdict == NEVER { NEVER } else { UNKNOWN }
+}
+
+pub fn new_var(m: &mut [u64]) -> Told
+    requires { ⌜ Sized (now m) ⌝ }
+    ensures after { λ _. ⌜ view (now (m .exit)) ≡ on-new-var (view (now (m .entry))) .state ⌝ }
+    ensures answer { λ r. ⌜ told (on-new-var (view (now (m .entry))) .act) ≡ r ⌝ }
+{
+    let vars = read(m, NUM_VARS);
+    if vars >= MAX_VARS {
+        return Told::No(7);
+    }
+    let verdict = without_yes(read(m, VERDICT));
+    write(m, NUM_VARS, vars + 1);
+    write(m, VERDICT, verdict);
+    write(m, PHASE, RESTING);
+    Told::Shows(vars)
+}
+
+// Where a clause has room.
+fn free_place(m: &[u64], clause: &[u64]) -> Option<Place>
+    requires { ⌜ Sized (now m) ⌝ }
+    ensures room { λ r. ⌜ r ≡ pick (clause-fits (view (now (m .entry))) (now (clause .entry))) (Some (record { start = arena-len (view (now (m .entry))); len = length (now (clause .entry)) })) None ⌝ }
+    ensures bounds { λ r. ⌜ Within-room r (num-clauses (view (now (m .entry)))) ⌝ }
+{
+    let clauses = read(m, NUM_CLAUSES);
+    let start = read(m, ARENA_LEN);
+    let len = clause.len() as u64;
+    if clauses >= MAX_CLAUSES {
+        return None;
+    }
+    if len > MAX_LITERALS || start.saturating_sub(clauses) > MAX_LITERALS - len {
+        return None;
+    }
+    Some(Place { start, len })
+}
+
+pub fn add(m: &mut [u64], clause: &[u64]) -> Told
+    requires { ⌜ Sized (now m) ⌝ }
+    ensures after { λ _. ⌜ view (now (m .exit)) ≡ on-add (view (now (m .entry))) (now (clause .entry)) .state ⌝ }
+    ensures answer { λ r. ⌜ told (on-add (view (now (m .entry))) (now (clause .entry)) .act) ≡ r ⌝ }
+{
+    let Some(vars) = checked_row(clause) else {
+        return Told::No(6);
+    };
+    let Some(place) = free_place(m, clause) else {
+        return Told::No(7);
+    };
+    let vars = larger_of(read(m, NUM_VARS), vars);
+    let clauses = read(m, NUM_CLAUSES) + 1;
+    let verdict = only_no(read(m, VERDICT));
+    store_clause(m, place.start, clause);
+    write(m, NUM_VARS, vars);
+    write(m, NUM_CLAUSES, clauses);
+    write(m, ARENA_LEN, place.start + (place.len + 1));
+    write(m, VERDICT, verdict);
+    write(m, PHASE, RESTING);
+    Told::Done
+}
+
+fn answer_of(verdict: u64) -> u64
+    ensures { λ r. ⌜ r ≡ pick (eqb verdict 1) 1 0 ⌝ }
+{
+    if verdict == YES { 1 } else { 0 }
+}
+
+// What is known is told again; else the search begins.
+pub fn solve(m: &mut [u64]) -> Told
+    requires { ⌜ Sized (now m) ⌝ }
+    ensures after { λ _. ⌜ view (now (m .exit)) ≡ on-solve (view (now (m .entry))) .state ⌝ }
+    ensures answer { λ r. ⌜ told (on-solve (view (now (m .entry))) .act) ≡ r ⌝ }
+{
+    let verdict = read(m, VERDICT);
+    if verdict != UNKNOWN {
+        write(m, PHASE, RESTING);
+        return Told::Shows(answer_of(verdict));
+    }
+    start_search(m);
+    clear_core(m);
+    write(m, PHASE, SEARCHING);
+    Told::Writes(0)
+}
+
+pub fn model(m: &mut [u64]) -> Told
+    requires { ⌜ Sized (now m) ⌝ }
+    ensures after { λ _. ⌜ view (now (m .exit)) ≡ on-model (view (now (m .entry))) .state ⌝ }
+    ensures answer { λ r. ⌜ told (on-model (view (now (m .entry))) .act) ≡ r ⌝ }
+{
+    if read(m, VERDICT) != YES {
+        return Told::No(4);
+    }
+    write(m, CURSOR, 0);
+    write(m, PHASE, SHOWING);
+    Told::Writes(0)
+}
+
+pub fn assume(m: &mut [u64], row: &[u64]) -> Told
+    requires { ⌜ Sized (now m) ⌝ }
+    ensures after { λ _. ⌜ view (now (m .exit)) ≡ on-assume (view (now (m .entry))) (now (row .entry)) .state ⌝ }
+    ensures answer { λ r. ⌜ told (on-assume (view (now (m .entry))) (now (row .entry)) .act) ≡ r ⌝ }
+{
+    let Some(vars) = checked_row(row) else {
+        return Told::No(6);
+    };
+    let vars = larger_of(read(m, NUM_VARS), vars);
+    let verdict = only_never(read(m, VERDICT));
+    write_assumptions(m, row);
+    write(m, NUM_VARS, vars);
+    write(m, NUM_ASSUMPTIONS, row.len() as u64);
+    write(m, VERDICT, verdict);
+    write(m, PHASE, RESTING);
+    Told::Done
+}
