@@ -1,4 +1,4 @@
--- Clauses in the arena: a table that begins with a formula's rows has its clauses, and one more is written behind them.
+-- Clauses in the arena: a table that begins with a formula's rows has its clauses, and more are written behind them.
 -- Also what the machine's test of the sizes comes to, and that a row's variables are below the number counted for it.
 use mathlib.Core.Path.{_≡_, refl, sym, _∙_, ap}
 use mathlib.Core.Bool.{true, _&&_}
@@ -7,23 +7,16 @@ use Prim.Native.Nat.{ℕ, suc, _+_, _-_, _/_, _≤_}
 use native.Mathlib.Nat.{zero-add}
 use native.Mathlib.Omega.{arith}
 use lib.Dec.{ltb, leb}
-use lib.ListN.{length, take, drop, length-append, take-append-drop}
-use lib.Seq.{sets, sets-eq, take-at, drop-at, length-take-le}
-use Rattle.std.proofs.shelf.Tests.{ltb-true, lt-ltb, and-from}
+use lib.ListN.{length, take, drop, set, length-append, take-append-drop}
+use lib.Seq.{sets, sets-eq, take-at, drop-at, take-set-le, length-take-le}
+use Rattle.std.proofs.shelf.Tests.{ltb-true, lt-ltb, leb-true, and-parts, and-from}
 use Rattle.formula.specs.Logic.{every, Clause, added-up, how-large}
-use Rattle.formula.specs.Arena.{clause-row, clauses-in}
+use Rattle.formula.specs.Arena.{clause-row, rows-of, size, clauses-in}
 use Rattle.dimacs.specs.Text.{row-vars, vars-of, larger}
+use Rattle.dimacs.specs.Statements.{lits-fit}
 use Rattle.search.specs.Ends.{row-below}
 use Rattle.solver.specs.House.{fitting}
 use Rattle.solver.proofs.Picks.{pick-both, larger-left, larger-right, every-imp}
-
--- the rows of all clauses, and how many numbers they are
-unfoldable pub rows-of : List Clause → List ℕ
-rows-of [] = []
-rows-of (c ∷ cs) = clause-row c ++ rows-of cs
-
-abbrev pub size : List Clause → ℕ
-size cs = how-large cs + length cs
 
 clauses-in-rows : (cs : List Clause) (rest : List ℕ) → clauses-in (length cs) (rows-of cs ++ rest) ≡ cs
 unfolding clauses-in rows-of clause-row
@@ -39,23 +32,34 @@ pub clauses-are : (cs : List Clause) (n : ℕ) (ar : List ℕ) → take n ar ≡
 clauses-are cs n ar e =
     ap (clauses-in (length cs)) (sym (take-append-drop n ar) ∙ ap (λ (x : List ℕ). x ++ drop n ar) e) ∙ clauses-in-rows cs (drop n ar)
 
--- ONE MORE
-rows-of-more : (cs : List Clause) (c : Clause) → rows-of (cs ++ c ∷ []) ≡ rows-of cs ++ clause-row c
+-- MORE OF THEM
+rows-of-append : (cs ds : List Clause) → rows-of (cs ++ ds) ≡ rows-of cs ++ rows-of ds
 unfolding rows-of
-rows-of-more [] c = append-nil (clause-row c)
-rows-of-more (x ∷ cs) c = ap (λ (y : List ℕ). clause-row x ++ y) (rows-of-more cs c) ∙ sym (append-assoc (clause-row x) (rows-of cs) (clause-row c))
+rows-of-append [] ds = refl
+rows-of-append (c ∷ cs) ds = ap (λ (x : List ℕ). clause-row c ++ x) (rows-of-append cs ds) ∙ sym (append-assoc (clause-row c) (rows-of cs) (rows-of ds))
 
-how-large-more : (cs : List Clause) (c : Clause) → how-large (cs ++ c ∷ []) ≡ how-large cs + length c
+pub rows-one : (c : Clause) → rows-of (c ∷ []) ≡ clause-row c
+unfolding rows-of
+rows-one c = append-nil (clause-row c)
+
+how-large-append : (cs ds : List Clause) → how-large (cs ++ ds) ≡ how-large cs + how-large ds
 unfolding added-up
-how-large-more [] c = omega arith
-how-large-more (x ∷ cs) c = let h = how-large-more cs c in omega arith
+how-large-append [] ds = omega arith
+how-large-append (x ∷ cs) ds = let h = how-large-append cs ds in omega arith
 
-pub length-more : (cs : List Clause) (c : Clause) → length (cs ++ c ∷ []) ≡ length cs + 1
-length-more cs c = length-append cs (c ∷ [])
+pub how-large-one : (c : Clause) → how-large (c ∷ []) ≡ length c
+unfolding added-up
+how-large-one c = omega arith
 
-pub size-more : (cs : List Clause) (c : Clause) → size (cs ++ c ∷ []) ≡ size cs + (length c + 1)
-size-more cs c = let a = how-large-more cs c in let b = length-more cs c in omega arith
+pub size-append : (cs ds : List Clause) → size (cs ++ ds) ≡ size cs + size ds
+size-append cs ds = let a = how-large-append cs ds in let b = length-append cs ds in omega arith
 
+length-rows : (cs : List Clause) → length (rows-of cs) ≡ size cs
+unfolding rows-of clause-row added-up
+length-rows [] = refl
+length-rows (c ∷ cs) = let a = length-append c (rows-of cs) in let b = length-rows cs in omega arith
+
+-- A ROW WRITTEN
 take-sets : (l vs : List ℕ) (i : ℕ) → i + length vs ≤ length l → take (i + length vs) (sets l i vs) ≡ take i l ++ vs
 take-sets l vs i h =
     ap (λ (x : List ℕ). take (i + length vs) x) (sets-eq vs l i h)
@@ -66,19 +70,28 @@ take-sets l vs i h =
 pub take-front : (t row : List ℕ) → length row ≤ length t → take (length row) (sets t 0 row) ≡ row
 take-front t row l = ap (λ (n : ℕ). take n (sets t 0 row)) (sym (zero-add (length row))) ∙ take-sets t row 0 (omega arith)
 
-pub take-row : (cs : List Clause) (c : Clause) (ar : List ℕ) → size (cs ++ c ∷ []) ≤ length ar → take (size cs) ar ≡ rows-of cs →
-    take (size (cs ++ c ∷ [])) (sets ar (size cs) (clause-row c)) ≡ rows-of (cs ++ c ∷ [])
-unfolding clause-row
-take-row cs c ar h e =
-    let sz : size (cs ++ c ∷ []) ≡ size cs + length (length c ∷ c) = let k = size-more cs c in omega arith in
-    ap (λ (n : ℕ). take n (sets ar (size cs) (clause-row c))) sz ∙ take-sets ar (clause-row c) (size cs) (omega arith)
-    ∙ ap (λ (x : List ℕ). x ++ clause-row c) e ∙ sym (rows-of-more cs c)
+-- what stands before it stays
+pub take-before : (vs l : List ℕ) (n i : ℕ) → n ≤ i → take n (sets l i vs) ≡ take n l
+take-before [] l n i h = refl
+take-before (v ∷ vs) l n i h = take-before vs (set l i v) n (suc i) (omega arith) ∙ take-set-le n l i v h
+
+pub take-rows : (cs ds : List Clause) (ar : List ℕ) → size (cs ++ ds) ≤ length ar → take (size cs) ar ≡ rows-of cs →
+    take (size (cs ++ ds)) (sets ar (size cs) (rows-of ds)) ≡ rows-of (cs ++ ds)
+take-rows cs ds ar h e =
+    let n = length-rows ds in
+    let sz : size (cs ++ ds) ≡ size cs + length (rows-of ds) = let k = size-append cs ds in omega arith in
+    ap (λ (n : ℕ). take n (sets ar (size cs) (rows-of ds))) sz ∙ take-sets ar (rows-of ds) (size cs) (omega arith)
+    ∙ ap (λ (x : List ℕ). x ++ rows-of ds) e ∙ sym (rows-of-append cs ds)
 
 -- the machine's test is whether they fit
-pub fits-same : (cs : List Clause) (c : Clause) → (leb (length cs + 1) 16384 && leb (size cs - length cs + length c) 65536) ≡ fitting (cs ++ c ∷ [])
-fits-same cs c =
-    let a : size cs - length cs + length c ≡ how-large (cs ++ c ∷ []) = let h = how-large-more cs c in omega arith in
-    ap (λ (x : ℕ). leb (length cs + 1) 16384 && leb x 65536) a ∙ ap (λ (x : ℕ). leb x 16384 && leb (how-large (cs ++ c ∷ [])) 65536) (sym (length-more cs c))
+pub fits-same : (cs ds : List Clause) → (leb (length cs + length ds) 16384 && leb (size cs - length cs + how-large ds) 65536) ≡ fitting (cs ++ ds)
+fits-same cs ds =
+    let a : size cs - length cs + how-large ds ≡ how-large (cs ++ ds) = let h = how-large-append cs ds in omega arith in
+    ap (λ (x : ℕ). leb (length cs + length ds) 16384 && leb x 65536) a
+    ∙ ap (λ (x : ℕ). leb x 16384 && leb (how-large (cs ++ ds)) 65536) (sym (length-append cs ds))
+
+pub fitting-parts : (cs : List Clause) → fitting cs ≡ true → (length cs ≤ 16384) × (how-large cs ≤ 65536)
+fitting-parts cs e = let q = and-parts (leb (length cs) 16384) (leb (how-large cs) 65536) e in (leb-true _ _ (q .0), leb-true _ _ (q .1))
 
 -- VARIABLES
 pub below-more : (n n₁ : ℕ) (c : Clause) → n ≤ n₁ → row-below n c ≡ true → row-below n₁ c ≡ true
@@ -97,3 +110,19 @@ below-row (l ∷ c) =
 pub vars-of-one : (c : Clause) → vars-of (c ∷ []) ≡ row-vars c
 unfolding vars-of
 vars-of-one c = pick-both (λ (x : ℕ). x ≡ row-vars c) (ltb (row-vars c) 0) 0 (row-vars c) (λ h. let q = ltb-true (row-vars c) 0 h in omega arith) (λ h. refl)
+
+pub vars-of-append : (cs ds : List Clause) → vars-of (cs ++ ds) ≡ larger (vars-of cs) (vars-of ds)
+unfolding vars-of
+vars-of-append [] ds = grind arith
+vars-of-append (c ∷ cs) ds = let ih = vars-of-append cs ds in grind arith
+
+pub below-vars : (cs : List Clause) → every (row-below (vars-of cs)) cs ≡ true
+unfolding every vars-of
+below-vars [] = refl
+below-vars (c ∷ cs) =
+    and-from _ _ (below-more (row-vars c) (larger (row-vars c) (vars-of cs)) c (larger-left (row-vars c) (vars-of cs)) (below-row c))
+    (all-below-more (vars-of cs) (larger (row-vars c) (vars-of cs)) cs (larger-right (row-vars c) (vars-of cs)) (below-vars cs))
+
+pub below-fit : (n : ℕ) (cs : List Clause) → n ≤ 16384 → every (row-below n) cs ≡ true → every lits-fit cs ≡ true
+below-fit n cs le h =
+    every-imp (row-below n) lits-fit (λ c b. every-imp (λ l. ltb (l / 2) n) (λ l. ltb l 32768) (λ l k. let q = ltb-true (l / 2) n k in lt-ltb _ _ (omega arith)) c b) cs h

@@ -22,7 +22,7 @@ use Rattle.solver.specs.State.{zeros}
 use Rattle.solver.specs.Entry.{own, event-of, Act-told, Step-says, step-fits}
 use Rattle.solver.specs.Running.{run-fits, Ended, Handed, Run-says}
 use Rattle.solver.proofs.Layouts.{length-zeros}
-use Rattle.solver.proofs.Steps.{fits-is, quiet, own-quiet}
+use Rattle.solver.proofs.Steps.{fits-is, fair, own-fair}
 
 -- the act that a step told
 abbrev pub acted : Told → List ℕ → Act
@@ -49,8 +49,8 @@ pub record Going (told : List ℕ → List ℕ → Type 0) (m : List ℕ) (k : �
   pub room : length out ≡ 128
 
 -- WHAT FITS: of the room for bytes only the length counts
-pub fits-room : (m : List ℕ) (k : ℕ) (row bytes out out₁ : List ℕ) → length out ≡ length out₁ → step-fits m k row bytes out ≡ step-fits m k row bytes out₁
-fits-room m k row bytes out out₁ e =
+pub room-only : (m : List ℕ) (k : ℕ) (row bytes out out₁ : List ℕ) → length out ≡ length out₁ → step-fits m k row bytes out ≡ step-fits m k row bytes out₁
+room-only m k row bytes out out₁ e =
     fits-is m k row bytes out
     ∙ (ap (λ n. eqb (length m) 524288 && (leb k 9 && ((leb (length row) 1048576 && leb (length bytes) 1048576) && leb 128 n))) e ∙ sym (fits-is m k row bytes out₁))
 
@@ -74,9 +74,9 @@ module _ (m₁ : List ℕ) (k₁ : ℕ) (row bytes out : List ℕ) (r : Told) (m
       ap (λ (m : List ℕ). one-act (λ m₃ ss₁ ws₁. runs j own m₃ next ss₁ ws₁) ss ws m (own .step m₁ (event-of k₁ row bytes) .act)) (sym (says-true .0))
       ∙ ap (one-act (λ m₃ ss₁ ws₁. runs j own m₃ next ss₁ ws₁) ss ws m₂) (act-is (own .step m₁ (event-of k₁ row bytes) .act) r out out₂ (says-true .1))
 
-  quiet-acted : quiet (acted r out₂) ≡ true
+  fair-acted : fair (acted r out₂) ≡ true
   unfolding Step-says
-  quiet-acted = sym (ap quiet (act-is (own .step m₁ (event-of k₁ row bytes) .act) r out out₂ (says-true .1))) ∙ own-quiet m₁ (event-of k₁ row bytes)
+  fair-acted = sym (ap fair (act-is (own .step m₁ (event-of k₁ row bytes) .act) r out out₂ (says-true .1))) ∙ own-fair m₁ (event-of k₁ row bytes)
 
 short : (n : ℕ) (out : List ℕ) → length out ≡ 128 → leb (length (take n out)) 128 ≡ true
 short n out e = le-leb _ _ (simp length-take (omega arith))
@@ -155,7 +155,7 @@ module _ (B S A : List ℕ → List ℕ → Type 0) (join : (ss ts ws vs : List 
         subst (λ (y : End). Run-says A m k row bytes n true y m₂) (sym f) (ended _ (whole-by Done says) 0 refl (h .1))
     drive-ends-true (No q) e says h =
         let f : e ≡ Refused q = cc (h .0) in
-        let small = quiet-acted m₁ k₁ row bytes out (No q) m₂ out₂ (g .fit) says in
+        let small = fair-acted m₁ k₁ row bytes out (No q) m₂ out₂ (g .fit) says in
         subst (λ (y : End). Run-says A m k row bytes n true y m₂) (sym f)
         (ended _ (whole-by (No q) says) q (ap (λ (b : Bool). ran m₂ (g .showed) (g .wrote) (pick b q 1001)) small) (h .1))
 
@@ -168,7 +168,7 @@ module _ (A : List ℕ → List ℕ → Type 0) (m : List ℕ) (k : ℕ) (row by
   pub drive-refused : (out : List ℕ) → length out ≡ 128 → step-fits m k row bytes out ≡ false → A [] [] → Run-says A m k row bytes n (run-fits m k row bytes) (Refused 0) m
   unfolding Run-says
   drive-refused out l f a =
-      subst (λ (b : Bool). Run-says A m k row bytes n b (Refused 0) m) (sym (fits-room m k row bytes (zeros 128) out (length-zeros 128 ∙ sym l) ∙ f)) (refl, refl, a)
+      subst (λ (b : Bool). Run-says A m k row bytes n b (Refused 0) m) (sym (room-only m k row bytes (zeros 128) out (length-zeros 128 ∙ sym l) ∙ f)) (refl, refl, a)
 
   pub drive-starts : (out : List ℕ) → length out ≡ 128 → step-fits m k row bytes out ≡ true → A [] [] → Going A m k row bytes n 0 m k out
   drive-starts out l f a =
@@ -184,7 +184,7 @@ module _ (A : List ℕ → List ℕ → Type 0) (m : List ℕ) (k : ℕ) (row by
       subst (λ (b : Bool). Run-says A m k row bytes n b Unfinished m₁) (sym f) (subst (λ (x : Ran). Ended A x 1000 m₁) r (refl, refl, g .sink))
 
 pub fits-zeros : (m : List ℕ) (k : ℕ) (row bytes : List ℕ) → step-fits m k row bytes (replicate 128 0) ≡ true → run-fits m k row bytes ≡ true
-fits-zeros m k row bytes f = fits-room m k row bytes (zeros 128) (replicate 128 0) (length-zeros 128) ∙ f
+fits-zeros m k row bytes f = room-only m k row bytes (zeros 128) (replicate 128 0) (length-zeros 128) ∙ f
 
 -- what is written is cut to the room there is
 pub handed-writes : (S : List ℕ → List ℕ → Type 0) (t : Told) (n l : ℕ) (out : List ℕ) → t ≡ Writes n → l ≡ min n (length out) → S [] (take (l - 0) out) → Handed S t out None

@@ -1,52 +1,35 @@
--- One lemma for each command of the small core: what comes of it from a memory at rest, and that it is at rest with the house afterwards.
+-- One lemma for each command, four of them here: what comes of it from a memory at rest, and that it is at rest with the house afterwards.
 -- `answers` is promised of all of them, given that plain search ends.
 use mathlib.Core.Path.{_≡_, refl, sym, _∙_, ap, subst, subst⁻¹}
 use mathlib.Core.Bool.{Bool, true, false, _&&_}
 use mathlib.Core.List.{List, [], _∷_, _++_}
-use Prim.Native.Nat.{ℕ, suc, _+_, _≤_, _<_}
+use Prim.Native.Nat.{ℕ, suc, _+_, _-_, _<_}
 use native.Mathlib.Nat.{zero-add}
 use native.Mathlib.Numerals.{add-one}
 use native.Mathlib.Omega.{arith}
 use lib.Dec.{eqb, ltb, leb}
-use lib.ListN.{length, take, drop}
+use lib.ListN.{length, take, drop, length-append}
 use lib.Seq.{sets, length-sets}
-use Rattle.std.proofs.shelf.Tests.{ltb-true, leb-true, and-parts, and-from}
-use Rattle.formula.specs.Logic.{pick, every, none-of, Clause, how-large}
-use Rattle.formula.specs.Arena.{clause-row}
+use Rattle.std.proofs.shelf.Tests.{ltb-true, leb-true, and-parts}
+use Rattle.formula.specs.Logic.{pick, none-of, Clause}
+use Rattle.formula.specs.Arena.{clause-row, rows-of, size}
 use Rattle.dimacs.specs.Text.{row-vars, vars-of, larger}
 use Rattle.dimacs.specs.Statements.{lits-fit}
-use Rattle.search.specs.Ends.{Search-ends, row-below}
-use Rattle.solver.specs.House.{House, house, Command, new-var, add, assume, solve, model-of, failed-core, read-file, print-it, prove, core, refusal, refused-with, After, shown, written, with-clauses, with-assumed, fitting}
-use Rattle.solver.specs.Promise.{said, done, refused, ran}
-use Rattle.solver.specs.State.{State, state, flat, with-assumptions, with-arena}
-use Rattle.solver.specs.Machine.{turn, on-event, on-command, after-add}
-use Rattle.solver.proofs.Picks.{pick-yes, pick-no, every-append, larger-left, larger-right, larger-in, row-vars-in}
-use Rattle.solver.proofs.Arenas.{size, size-more, length-more, take-front, take-row, fits-same, below-more, all-below-more, below-row, vars-of-one}
+use Rattle.dimacs.proofs.ThereAndBack.{row-few}
+use Rattle.search.specs.Ends.{Search-ends}
+use Rattle.solver.specs.House.{House, house, Command, new-var, add, assume, solve, model-of, failed-core, read-file, print-it, prove, small-command, refusal, refused-with, After, shown, written, with-clauses, with-assumed, fitting}
+use Rattle.solver.specs.Known.{all-but-proofs}
+use Rattle.solver.specs.Promise.{said, done, ran}
+use Rattle.solver.specs.State.{State, state, flat, with-assumptions, with-arena, scalar}
+use Rattle.solver.specs.Machine.{turn, on-event, on-command, after-add, file-fits}
+use Rattle.solver.proofs.Picks.{pick-yes, pick-no, every-one, larger-left, larger-right, larger-in}
+use Rattle.solver.proofs.Arenas.{rows-one, how-large-one, size-append, take-front, take-rows, fits-same, below-more, all-below-more, below-row, vars-of-one, vars-of-append}
+use Rattle.solver.proofs.Growing.{holds-more, arena-room}
 use Rattle.solver.proofs.Solving.{solve-answer}
-use Rattle.solver.proofs.Invariant.{state-of, resting, sized-state-of, Tells, unsolved, can, cannot, never, Holds, At-rest, Answer, outcome-unknown, outcome-refused, outcome-done, goes-done, goes-refused, goes-quiet, shows-done, goes-showing}
-
-module _ (known : Command → Bool) (h : House) (v d : ℕ) (s : State) (st : Holds h v s) where
-  refuses : (c : Command) (q : ℕ) → known c ≡ true → refusal h c ≡ q → 0 < q → (leb 1 q && ltb q 1000) ≡ true → refused-with h c ≡ [] →
-      on-event (resting h v d s) (said c) ≡ turn (resting h v d s) (refused q) → Answer known (flat (resting h v d s)) h c
-  refuses c q e r pos small w t =
-      let s₁ = resting h v d s in (
-        ran (flat s₁) [] [] q,
-        h,
-        goes-refused s₁ s₁ (said c) [] (sized-state-of h v 0 d s (st .sized)) q small t,
-        outcome-refused known h c (flat s₁) q e r pos w,
-        (v, d, s, refl, st),
-      )
-
-  unknown : (c : Command) → known c ≡ false → on-event (resting h v d s) (said c) ≡ turn (resting h v d s) (refused 2) →
-      Answer known (flat (resting h v d s)) h c
-  unknown c e t =
-      let s₁ = resting h v d s in (
-        ran (flat s₁) [] [] 2,
-        h,
-        goes-refused s₁ s₁ (said c) [] (sized-state-of h v 0 d s (st .sized)) 2 refl t,
-        outcome-unknown known h c (flat s₁) e,
-        (v, d, s, refl, st),
-      )
+use Rattle.solver.proofs.Coring.{core-answer}
+use Rattle.solver.proofs.Printing.{print-answer}
+use Rattle.solver.proofs.Filing.{read-answer}
+use Rattle.solver.proofs.Invariant.{state-of, resting, sized-state-of, Tells, unsolved, can, cannot, never, Holds, At-rest, Answer, refuses, unknown, outcome-done, goes-done, goes-quiet, shows-done, goes-showing}
 
 -- NEW
 abbrev with-var : House → House
@@ -64,6 +47,7 @@ holds-var h v s st lt =
       sized = st .sized;
       vars-in = lt;
       clauses-lie = st .clauses-lie;
+      clauses-fit = st .clauses-fit;
       assumed-lie = st .assumed-lie;
       clauses-below = all-below-more (h .made) (suc (h .made)) (h .clauses) (omega arith) (st .clauses-below);
       assumed-below = below-more (h .made) (suc (h .made)) (h .assumed) (omega arith) (st .assumed-below);
@@ -83,20 +67,14 @@ new-var-answer known h v d s st kn = go (ltb (h .made) 16384) refl
           ran (flat s₁) (h .made ∷ []) [] 0,
           with-var h,
           shows-done (resting h v d s) (said new-var) (h .made) (with-var h) v₁ d s (sized-state-of h v 0 d s (st .sized)) (st .sized) (rw (e, add-one)),
-          outcome-done known h new-var (flat s₁) (with-var h) (h .made ∷ []) kn (rw (e, st .not-proving)) refl refl refl,
+          outcome-done known h new-var (flat s₁) (with-var h) (h .made ∷ []) [] kn (rw (e, st .not-proving)) refl refl refl,
           (v₁, d, s, refl, holds-var h v s st (ltb-true _ _ e)),
         )
 
 -- ADD
-tells-add : (h : House) (cs : List Clause) (s : State) (ar : List ℕ) (v : ℕ) → Tells h s v → Tells (with-clauses h cs) (with-arena s ar) (pick (leb 2 v) v 0)
-tells-add h cs s ar v (unsolved e) = unsolved (ap (λ (x : ℕ). pick (eqb x 2) 2 0) e)
-tells-add h cs s ar v (can e m) = unsolved (ap (λ (x : ℕ). pick (eqb x 2) 2 0) e)
-tells-add h cs s ar v (cannot e c n) = cannot (ap (λ (x : ℕ). pick (eqb x 2) 2 0) e) c n
-tells-add h cs s ar v (never e n) = never (ap (λ (x : ℕ). pick (eqb x 2) 2 0) e) n
-
-below-one : (n : ℕ) (c : Clause) → row-below n c ≡ true → every (row-below n) (c ∷ []) ≡ true
-unfolding every
-below-one n c e = and-from (row-below n c) true e refl
+add-fits : (cs : List Clause) (c : Clause) → (leb (length cs + 1) 16384 && leb (size cs - length cs + length c) 65536) ≡ fitting (cs ++ c ∷ [])
+add-fits cs c =
+    ap (λ (x : ℕ). leb (length cs + 1) 16384 && leb (size cs - length cs + x) 65536) (sym (how-large-one c)) ∙ fits-same cs (c ∷ [])
 
 module _ (h : House) (v d : ℕ) (s : State) (st : Holds h v s) (c : Clause) (e : (lits-fit c && leb (length c) 1024) ≡ true)
     (fit : fitting (h .clauses ++ c ∷ []) ≡ true) where
@@ -105,37 +83,20 @@ module _ (h : House) (v d : ℕ) (s : State) (st : Holds h v s) (c : Clause) (e 
 
   holds-add : Holds (with-clauses h (c ∷ [])) (pick (leb 2 v) v 0) (with-arena s arena-after)
   holds-add =
-      let q = and-parts (leb (length (h .clauses ++ c ∷ [])) 16384) (leb (how-large (h .clauses ++ c ∷ [])) 65536) fit in
-      let q₀ = leb-true _ _ (q .0) in
-      let q₁ = leb-true _ _ (q .1) in
-      let one = vars-of-one c in
-      let new : ℕ = larger (h .made) (vars-of (c ∷ [])) in
-      let old-in : h .made ≤ new = larger-left (h .made) (vars-of (c ∷ [])) in
-      let row-in : row-vars c ≤ new = subst (λ (x : ℕ). x ≤ new) one (larger-right (h .made) (vars-of (c ∷ []))) in
-      let z = st .sized in
-      let l = z .arena-long in
-      record {
-        sized = record {
-          scalars-long = z .scalars-long;
-          assumptions-long = z .assumptions-long;
-          core-long = z .core-long;
-          model-long = z .model-long;
-          arena-long = length-sets (s .arena) (size (h .clauses)) (clause-row c) ∙ z .arena-long;
-          work-long = z .work-long;
-        };
-        vars-in = larger-in (h .made) (vars-of (c ∷ [])) 16384 (st .vars-in) (rw one (row-vars-in c (and-parts (lits-fit c) (leb (length c) 1024) e .0)));
-        clauses-lie = take-row (h .clauses) c (s .arena) (omega arith) (st .clauses-lie);
-        assumed-lie = st .assumed-lie;
-        clauses-below = every-append (row-below new) (h .clauses) (c ∷ []) (all-below-more (h .made) new (h .clauses) old-in (st .clauses-below))
-            (below-one new c (below-more (row-vars c) new c row-in (below-row c)));
-        assumed-below = below-more (h .made) new (h .assumed) old-in (st .assumed-below);
-        tells = tells-add h (c ∷ []) s arena-after v (st .tells);
-        not-proving = st .not-proving;
-      }
+      holds-more h v s (c ∷ []) arena-after st (every-one lits-fit c (and-parts (lits-fit c) (leb (length c) 1024) e .0)) fit
+      (length-sets (s .arena) (size (h .clauses)) (clause-row c) ∙ st .sized .arena-long)
+      (subst (λ (x : List ℕ). take (size (h .clauses ++ c ∷ [])) (sets (s .arena) (size (h .clauses)) x) ≡ rows-of (h .clauses ++ c ∷ [])) (rows-one c)
+      (take-rows (h .clauses) (c ∷ []) (s .arena) (arena-room h s (c ∷ []) (st .sized) fit) (st .clauses-lie)))
 
   after-add-is : after-add (resting h v d s) c ≡ resting (with-clauses h (c ∷ [])) (pick (leb 2 v) v 0) d (with-arena s arena-after)
-  after-add-is i =
-      state (larger (h .made) (sym (vars-of-one c) i) ∷ sym (length-more (h .clauses) c) i ∷ sym (size-more (h .clauses) c) i ∷ length (h .assumed) ∷ pick (leb 2 v) v 0 ∷ 0 ∷ d ∷ drop 7 (s .scalars))
+  after-add-is =
+      let made : larger (h .made) (row-vars c) ≡ larger (h .made) (vars-of (c ∷ [])) = ap (larger (h .made)) (sym (vars-of-one c)) in
+      let vars : larger (vars-of (h .clauses)) (row-vars c) ≡ vars-of (h .clauses ++ c ∷ []) = ap (larger (vars-of (h .clauses))) (sym (vars-of-one c)) ∙ sym (vars-of-append (h .clauses) (c ∷ [])) in
+      let count : length (h .clauses) + 1 ≡ length (h .clauses ++ c ∷ []) = sym (length-append (h .clauses) (c ∷ [])) in
+      let long : size (h .clauses) + (length c + 1) ≡ size (h .clauses ++ c ∷ []) =
+      let a = size-append (h .clauses) (c ∷ []) in let b = how-large-one c in omega arith in
+      λ i. state (made i ∷ count i ∷ long i ∷ length (h .assumed) ∷ pick (leb 2 v) v 0 ∷ 0 ∷ d ∷ vars i
+      ∷ scalar s 8 ∷ scalar s 9 ∷ scalar s 10 ∷ scalar s 11 ∷ scalar s 12 ∷ drop 13 (s .scalars))
       (s .assumptions) (s .core) (s .model) arena-after (s .work)
 
   add-goes : (known : Command → Bool) → known (add c) ≡ true → Answer known (flat (resting h v d s)) h (add c)
@@ -146,9 +107,9 @@ module _ (h : House) (v d : ℕ) (s : State) (st : Holds h v s) (c : Clause) (e 
       let s₁ = resting h₁ v₁ d (with-arena s arena-after) in (
         ran (flat s₁) [] [] 0,
         h₁,
-        goes-done (resting h v d s) s₁ (said (add c)) [] (sized-state-of h v 0 d s (st .sized))
-            (pick-yes _ _ _ e ∙ pick-yes _ _ _ (fits-same (h .clauses) c ∙ fit) ∙ ap (λ (t : State). turn t done) after-add-is),
-        outcome-done known h (add c) (flat s₁) h₁ [] kn (pick-yes _ _ _ e ∙ pick-yes _ _ _ fit ∙ rw (st .not-proving)) refl refl refl,
+        goes-done (resting h v d s) s₁ (said (add c)) [] [] (sized-state-of h v 0 d s (st .sized))
+            (pick-yes _ _ _ e ∙ pick-yes _ _ _ (add-fits (h .clauses) c ∙ fit) ∙ ap (λ (t : State). turn t done) after-add-is),
+        outcome-done known h (add c) (flat s₁) h₁ [] [] kn (pick-yes _ _ _ e ∙ pick-yes _ _ _ fit ∙ rw (st .not-proving)) refl refl refl,
         (v₁, d, with-arena s arena-after, refl, holds-add),
       )
 
@@ -160,7 +121,7 @@ add-answer known h v d s st c kn = go (lits-fit c && leb (length c) 1024) refl (
     go false e b₁ e₁ = refuses known h v d s st (add c) 6 kn (pick-no _ _ _ e) (omega arith) refl refl (pick-no _ _ _ e)
     go true e false e₁ =
         refuses known h v d s st (add c) 7 kn (pick-yes _ _ _ e ∙ pick-no _ _ _ e₁) (omega arith) refl refl
-        (pick-yes _ _ _ e ∙ pick-no _ _ _ (fits-same (h .clauses) c ∙ e₁))
+        (pick-yes _ _ _ e ∙ pick-no _ _ _ (add-fits (h .clauses) c ∙ e₁))
     go true e true e₁ = add-goes h v d s st c e e₁ known kn
 
 -- ASSUME
@@ -187,8 +148,9 @@ holds-assume h v s st ls e =
         arena-long = z .arena-long;
         work-long = z .work-long;
       };
-      vars-in = larger-in (h .made) (row-vars ls) 16384 (st .vars-in) (row-vars-in ls (p .0));
+      vars-in = larger-in (h .made) (row-vars ls) 16384 (st .vars-in) (row-few ls (p .0));
       clauses-lie = st .clauses-lie;
+      clauses-fit = st .clauses-fit;
       assumed-lie = take-front (s .assumptions) ls (omega arith);
       clauses-below = all-below-more (h .made) new (h .clauses) (larger-left (h .made) (row-vars ls)) (st .clauses-below);
       assumed-below = below-more (row-vars ls) new ls (larger-right (h .made) (row-vars ls)) (below-row ls);
@@ -209,8 +171,8 @@ assume-answer known h v d s st ls kn = go (lits-fit ls && leb (length ls) 1024) 
         let s₁ = resting h₁ v₁ d t in (
           ran (flat s₁) [] [] 0,
           h₁,
-          goes-done (resting h v d s) s₁ (said (assume ls)) [] (sized-state-of h v 0 d s (st .sized)) (pick-yes _ _ _ e),
-          outcome-done known h (assume ls) (flat s₁) h₁ [] kn (pick-yes _ _ _ e ∙ rw (st .not-proving)) refl refl refl,
+          goes-done (resting h v d s) s₁ (said (assume ls)) [] [] (sized-state-of h v 0 d s (st .sized)) (pick-yes _ _ _ e),
+          outcome-done known h (assume ls) (flat s₁) h₁ [] [] kn (pick-yes _ _ _ e ∙ rw (st .not-proving)) refl refl refl,
           (v₁, d, t, refl, holds-assume h v s st ls e),
         )
 
@@ -224,26 +186,50 @@ model-answer known h v d s (can e m) st kn =
     let r = ran (flat s₁) ms [] 0 in (
       r,
       h,
-      goes-quiet (resting h 1 d s) (state-of h 1 2 0 s) (said model-of) [] (sized-state-of h 1 0 d s (st .sized)) r refl
+      goes-quiet (resting h 1 d s) (state-of h 1 2 0 s) (said model-of) [] [] (sized-state-of h 1 0 d s (st .sized)) r refl
           (goes-showing h 1 s (st .sized) (st .vars-in) (h .made) 0 [] (zero-add (h .made))),
-      outcome-done known h model-of (flat s₁) h ms kn (ap (λ (x : ℕ). pick (eqb x 1) 0 4) e) refl (sym m) refl,
+      outcome-done known h model-of (flat s₁) h ms [] kn (ap (λ (x : ℕ). pick (eqb x 1) 0 4) e) refl (sym m) refl,
       (1, h .made, s, refl, st),
     )
 model-answer known h v d s (cannot e c m) st kn = refuses known h 2 d s st model-of 4 kn (ap (λ (x : ℕ). pick (eqb x 1) 0 4) e) (omega arith) refl refl refl
 model-answer known h v d s (never e m) st kn = refuses known h 3 d s st model-of 4 kn (ap (λ (x : ℕ). pick (eqb x 1) 0 4) e) (omega arith) refl refl refl
 
 -- ALL
-each-answer : Search-ends → (h : House) (v d : ℕ) (s : State) → Holds h v s → (c : Command) → Answer core (flat (resting h v d s)) h c
-unfolding core on-event on-command
-each-answer ends h v d s st new-var = new-var-answer core h v d s st refl
-each-answer ends h v d s st (add c) = add-answer core h v d s st c refl
-each-answer ends h v d s st (assume ls) = assume-answer core h v d s st ls refl
-each-answer ends h v d s st solve = solve-answer core ends h v d s (st .tells) st refl
-each-answer ends h v d s st model-of = model-answer core h v d s (st .tells) st refl
-each-answer ends h v d s st failed-core = unknown core h v d s st failed-core refl refl
-each-answer ends h v d s st (read-file bs) = unknown core h v d s st (read-file bs) refl refl
-each-answer ends h v d s st print-it = unknown core h v d s st print-it refl refl
-each-answer ends h v d s st prove = unknown core h v d s st prove refl refl
+-- the bytes of a file are not too many
+abbrev pub bytes-fit : Command → Bool
+bytes-fit new-var = true
+bytes-fit (add c) = true
+bytes-fit (assume ls) = true
+bytes-fit solve = true
+bytes-fit model-of = true
+bytes-fit failed-core = true
+bytes-fit (read-file bs) = file-fits bs
+bytes-fit print-it = true
+bytes-fit prove = true
 
-pub answers : Search-ends → (m : List ℕ) (h : House) (c : Command) → At-rest m h → Answer core m h c
-answers ends m h c st = subst⁻¹ (λ (x : List ℕ). Answer core x h c) (st .3) (each-answer ends h (st .0) (st .1) (st .2) (st .4) c)
+pub small-bytes : (c : Command) → small-command c ≡ true → bytes-fit c ≡ true
+unfolding small-command
+small-bytes new-var e = refl
+small-bytes (add c) e = refl
+small-bytes (assume ls) e = refl
+small-bytes solve e = refl
+small-bytes model-of e = refl
+small-bytes failed-core e = refl
+small-bytes (read-file bs) e = e
+small-bytes print-it e = refl
+small-bytes prove e = refl
+
+each-answer : Search-ends → (h : House) (v d : ℕ) (s : State) → Holds h v s → (c : Command) → bytes-fit c ≡ true → Answer all-but-proofs (flat (resting h v d s)) h c
+unfolding all-but-proofs on-event on-command
+each-answer ends h v d s st new-var e = new-var-answer all-but-proofs h v d s st refl
+each-answer ends h v d s st (add c) e = add-answer all-but-proofs h v d s st c refl
+each-answer ends h v d s st (assume ls) e = assume-answer all-but-proofs h v d s st ls refl
+each-answer ends h v d s st solve e = solve-answer all-but-proofs ends h v d s (st .tells) st refl
+each-answer ends h v d s st model-of e = model-answer all-but-proofs h v d s (st .tells) st refl
+each-answer ends h v d s st failed-core e = core-answer all-but-proofs h v d s (st .tells) st refl
+each-answer ends h v d s st (read-file bs) e = read-answer h v d s st bs e all-but-proofs refl
+each-answer ends h v d s st print-it e = print-answer h v s st all-but-proofs d refl
+each-answer ends h v d s st prove e = unknown all-but-proofs h v d s st prove refl refl
+
+pub answers : Search-ends → (m : List ℕ) (h : House) (c : Command) → bytes-fit c ≡ true → At-rest m h → Answer all-but-proofs m h c
+answers ends m h c e st = subst⁻¹ (λ (x : List ℕ). Answer all-but-proofs x h c) (st .3) (each-answer ends h (st .0) (st .1) (st .2) (st .4) c e)

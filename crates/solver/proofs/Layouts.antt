@@ -2,17 +2,17 @@
 -- Also the start: zeros, their length, and how they fall into tables.
 use mathlib.Core.Path.{_≡_, refl, sym, _∙_, ap}
 use mathlib.Core.Bool.{Bool, true}
-use mathlib.Core.List.{List, [], _∷_, _++_}
+use mathlib.Core.List.{List, _∷_, _++_}
 use Prim.Native.Nat.{ℕ, zero, suc, _+_}
 use native.Mathlib.Nat.{zero-add}
 use native.Mathlib.Omega.{arith}
 use lib.Dec.{eqb}
-use lib.ListN.{length, take, drop, replicate, length-append, length-replicate}
+use lib.ListN.{length, getD, take, drop, replicate, length-append, length-replicate}
 use lib.Seq.{take-at, drop-at, take-all, drop-drop}
 use Rattle.std.proofs.shelf.Tests.{eq-eqb, and-from}
 use Rattle.formula.specs.Logic.{every}
 use Rattle.solver.specs.Promise.{Event, refused, Move}
-use Rattle.solver.specs.State.{State, state, view, flat, zeros}
+use Rattle.solver.specs.State.{State, state, view, flat, zeros, with-scalars, with-arena}
 use Rattle.solver.specs.Machine.{Turn, on-event, machine-step}
 use Rattle.solver.specs.Entry.{own}
 use Rattle.solver.proofs.Picks.{pick-yes}
@@ -25,6 +25,28 @@ pub record Sized (s : State) : Type 0 where
   pub model-long : length (s .model) ≡ 16384
   pub arena-long : length (s .arena) ≡ 81920
   pub work-long : length (s .work) ≡ 423680
+
+pub sized-scalars : (s : State) (t : List ℕ) → Sized s → length t ≡ 256 → Sized (with-scalars s t)
+sized-scalars s t z l =
+    record {
+      scalars-long = l;
+      assumptions-long = z .assumptions-long;
+      core-long = z .core-long;
+      model-long = z .model-long;
+      arena-long = z .arena-long;
+      work-long = z .work-long;
+    }
+
+pub sized-arena : (s : State) (t : List ℕ) → Sized s → length t ≡ 81920 → Sized (with-arena s t)
+sized-arena s t z l =
+    record {
+      scalars-long = z .scalars-long;
+      assumptions-long = z .assumptions-long;
+      core-long = z .core-long;
+      model-long = z .model-long;
+      arena-long = l;
+      work-long = z .work-long;
+    }
 
 skips : (p q : List ℕ) (n i k : ℕ) → length p ≡ n → take k (drop (n + i) (p ++ q)) ≡ take k (drop i q)
 skips p q n i k e = ap (take k) (sym (drop-drop i n (p ++ q)) ∙ ap (drop i) (drop-at p q n e))
@@ -76,9 +98,11 @@ unfolding zeros every
 every-zeros f h zero = refl
 every-zeros f h (suc n) = and-from _ _ h (every-zeros f h n)
 
-pub zeros-seven : (n : ℕ) → let m = suc (suc (suc (suc (suc (suc (suc n)))))) in zeros m ≡ 0 ∷ 0 ∷ 0 ∷ 0 ∷ 0 ∷ 0 ∷ 0 ∷ drop 7 (zeros m)
+-- the first numbers of a row of them
+pub zeros-thirteen : (n : ℕ) → let m = suc (suc (suc (suc (suc (suc (suc (suc (suc (suc (suc (suc (suc n)))))))))))) in
+    zeros m ≡ 0 ∷ 0 ∷ 0 ∷ 0 ∷ 0 ∷ 0 ∷ 0 ∷ 0 ∷ getD (zeros m) 8 0 ∷ getD (zeros m) 9 0 ∷ getD (zeros m) 10 0 ∷ getD (zeros m) 11 0 ∷ getD (zeros m) 12 0 ∷ drop 13 (zeros m)
 unfolding zeros
-zeros-seven n = refl
+zeros-thirteen n = refl
 
 pub zeros-append : (n k : ℕ) → zeros (n + k) ≡ zeros n ++ zeros k
 unfolding zeros

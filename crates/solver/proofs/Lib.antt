@@ -11,7 +11,15 @@ pub mod Models
 pub mod Arenas
 pub mod Steadies
 pub mod Invariant
+pub mod Growing
+pub mod Readings
+pub mod Coring
+pub mod TextSizes
+pub mod Printing
+pub mod Filing
 pub mod Solving
 pub mod EachCommand
 pub mod Wholly
+pub mod PrintsBack
 pub mod Drives
+pub mod FilesIn

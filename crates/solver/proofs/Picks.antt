@@ -1,19 +1,18 @@
 -- Small lemmas on `pick`, `every` and `larger`.
--- What holds of both cases holds of a `pick`; what holds of every entry is kept by cuts and writes; the bounds of `larger` and `row-vars`.
+-- What holds of both cases holds of a `pick`; what holds of every entry is kept by cuts and writes; the bounds of `larger`.
 use mathlib.Core.Path.{_≡_, refl, sym}
 use mathlib.Core.Bool.{Bool, true, false}
 use mathlib.Core.List.{List, [], _∷_, _++_}
 use mathlib.Core.Logic.{⊎-elim}
-use Prim.Native.Nat.{ℕ, zero, suc, _+_, _/_, _≤_, _<_}
+use Prim.Native.Nat.{ℕ, zero, suc, _+_, _≤_, _<_}
 use native.Mathlib.Omega.{arith}
 use lib.Dec.{ltb}
 use lib.ListN.{getD, take, drop, set}
 use lib.Seq.{sets}
 use Rattle.std.proofs.shelf.Tests.{ltb-true, lt-ltb, le-ltb, and-parts, and-from, cases-lt}
 use borrow.Author.Tests.{clash}
-use Rattle.formula.specs.Logic.{pick, every, Clause}
-use Rattle.dimacs.specs.Text.{row-vars, larger}
-use Rattle.dimacs.specs.Statements.{lits-fit}
+use Rattle.formula.specs.Logic.{pick, every}
+use Rattle.dimacs.specs.Text.{larger}
 
 pub pick-both : {A : Type 0} (P : A → Type 0) (b : Bool) (x y : A) → (b ≡ true → P x) → (b ≡ false → P y) → P (pick b x y)
 pick-both P true x y f g = f refl
@@ -32,6 +31,10 @@ module _ {A : Type 0} (f : A → Bool) where
   unfolding every
   every-append [] ys p q = q
   every-append (x ∷ xs) ys p q = let r = and-parts (f x) (every f xs) p in and-from _ _ (r .0) (every-append xs ys (r .1) q)
+
+  pub every-one : (x : A) → f x ≡ true → every f (x ∷ []) ≡ true
+  unfolding every
+  every-one x p = and-from _ _ p refl
 
   pub every-take : (n : ℕ) (xs : List A) → every f xs ≡ true → every f (take n xs) ≡ true
   unfolding every
@@ -67,6 +70,10 @@ module _ {A : Type 0} (f : A → Bool) where
   every-imp g w [] p = refl
   every-imp g w (x ∷ xs) p = let r = and-parts (f x) (every f xs) p in and-from _ _ (w x (r .0)) (every-imp g w xs (r .1))
 
+-- below 2^64
+abbrev pub few : ℕ → Bool
+few m = ltb m 18446744073709551616
+
 pub larger-left : (a b : ℕ) → a ≤ larger a b
 larger-left a b = pick-both (λ x. a ≤ x) (ltb a b) b a (λ h. omega (arith, ltb-true a b h)) (λ h. omega arith)
 
@@ -75,11 +82,3 @@ larger-right a b = ⊎-elim (λ (h : a < b). rw (lt-ltb a b h) (omega arith)) (�
 
 pub larger-in : (a b n : ℕ) → a ≤ n → b ≤ n → larger a b ≤ n
 larger-in a b n p q = pick-both (λ x. x ≤ n) (ltb a b) b a (λ h. q) (λ h. p)
-
-pub row-vars-in : (c : Clause) → lits-fit c ≡ true → row-vars c ≤ 16384
-unfolding every row-vars
-row-vars-in [] h = omega arith
-row-vars-in (l ∷ c) h =
-    let r = and-parts (ltb l 32768) (lits-fit c) h in
-    let q : l < 32768 = ltb-true _ _ (r .0) in
-    larger-in (suc (l / 2)) (row-vars c) 16384 (omega arith) (row-vars-in c (r .1))

@@ -7,7 +7,7 @@ use mathlib.Core.Logic.{inl, inr}
 use Prim.Native.Nat.{ℕ, _+_, _≤_, min}
 use native.Mathlib.Omega.{arith}
 use lib.Dec.{eqb}
-use lib.ListN.{length, take, drop, set, length-set, length-take}
+use lib.ListN.{length, take, drop, set, length-set}
 use lib.Seq.{sets, length-sets, drop-length}
 use borrow.Author.Tests.{clash}
 use Rattle.formula.specs.Logic.{pick, none-of, units, all-true, truth-of, Step}
@@ -22,7 +22,7 @@ use Rattle.solver.specs.Machine.{turn, on-event, on-command, searched}
 use Rattle.solver.proofs.Models.{length-model-row, each-var-model-row}
 use Rattle.solver.proofs.Layouts.{length-zeros}
 use Rattle.solver.proofs.Arenas.{take-front}
-use Rattle.solver.proofs.Invariant.{resting, sized-state-of, Tells, unsolved, can, cannot, never, Holds, Answer, outcome-done, Goes, goes-quiet, shows-done, in-search, amid, sized-in-search, sized-amid, looks, goes-searching}
+use Rattle.solver.proofs.Invariant.{resting, sized-state-of, Tells, unsolved, can, cannot, never, Holds, assumed-few, Answer, outcome-done, Goes, goes-quiet, shows-done, in-search, amid, sized-in-search, sized-amid, looks, goes-searching}
 
 solved-again : (h : House) → (h .solved ≡ 0 → ⊥) → Solved h h
 unfolding Solved
@@ -40,7 +40,7 @@ solves-again known h v d s n st ne is t kn =
       ran (flat s₁) (n ∷ []) [] 0,
       h,
       shows-done s₁ (said solve) n h v d s (sized-state-of h v 0 d s (st .sized)) (st .sized) t,
-      outcome-done known h solve (flat s₁) h (n ∷ []) kn refl (solved-again h ne) (ap (λ (x : ℕ). x ∷ []) is) (writes-nothing h h refl),
+      outcome-done known h solve (flat s₁) h (n ∷ []) [] kn refl (solved-again h ne) (ap (λ (x : ℕ). x ∷ []) is) (writes-nothing h h refl),
       (v, d, s, refl, st),
     )
 
@@ -52,9 +52,9 @@ fresh-long : (w : List ℕ) → length (fresh w) ≡ length w
 fresh-long w = length-set (set w 0 0) 1 0 ∙ length-set w 0 0
 
 module _ (h : House) (d : ℕ) (s : State) (st : Holds h 0 s) (e : h .solved ≡ 0) where
-  begins : (r : Ran) → Goes (amid h d s (fresh (s .work)) (zeros 1024)) next [] r → Goes (resting h 0 d s) (said solve) [] r
+  begins : (r : Ran) → Goes (amid h d s (fresh (s .work)) (zeros 1024)) next [] [] r → Goes (resting h 0 d s) (said solve) [] [] r
   unfolding on-event on-command
-  begins r g = goes-quiet (resting h 0 d s) (amid h d s (fresh (s .work)) (zeros 1024)) (said solve) [] (sized-state-of h 0 0 d s (st .sized)) r refl g
+  begins r g = goes-quiet (resting h 0 d s) (amid h d s (fresh (s .work)) (zeros 1024)) (said solve) [] [] (sized-state-of h 0 0 d s (st .sized)) r refl g
 
   -- YES
   abbrev yes-house : List ℕ → House
@@ -65,7 +65,6 @@ module _ (h : House) (d : ℕ) (s : State) (st : Holds h 0 s) (e : h .solved ≡
 
   yes-turn : (w ks : List ℕ) → look (h .clauses) (h .assumed) (h .made) w ≡ Full →
       on-event (amid h d s w ks) next ≡ turn (resting (yes-house w) 1 d (yes-state w ks)) (shows 1)
-  unfolding searched
   yes-turn w ks full =
       let m : min (h .made) 16384 ≡ h .made = let l = st .vars-in in omega arith in
       looks h d s st w ks ∙ ap (searched (amid h d s w ks)) full
@@ -101,6 +100,7 @@ module _ (h : House) (d : ℕ) (s : State) (st : Holds h 0 s) (e : h .solved ≡
         };
         vars-in = st .vars-in;
         clauses-lie = st .clauses-lie;
+        clauses-fit = st .clauses-fit;
         assumed-lie = st .assumed-lie;
         clauses-below = st .clauses-below;
         assumed-below = st .assumed-below;
@@ -117,7 +117,6 @@ module _ (h : House) (d : ℕ) (s : State) (st : Holds h 0 s) (e : h .solved ≡
 
   no-turn : (w ks : List ℕ) → look (h .clauses) (h .assumed) (h .made) w ≡ Exhausted →
       on-event (amid h d s w ks) next ≡ turn (resting (no-house ks) (no-verdict ks) d (in-search s w ks)) (shows 0)
-  unfolding searched
   no-turn w ks over =
       looks h d s st w ks ∙ ap (searched (amid h d s w ks)) over
       ∙ ap (λ (as₁ : List ℕ). turn (resting (no-house ks) (pick (none-of (marked ks as₁)) 3 2) d (in-search s w ks)) (shows 0)) (st .assumed-lie)
@@ -145,6 +144,7 @@ module _ (h : House) (d : ℕ) (s : State) (st : Holds h 0 s) (e : h .solved ≡
         sized = sized-in-search s w ks (st .sized) l k;
         vars-in = st .vars-in;
         clauses-lie = st .clauses-lie;
+        clauses-fit = st .clauses-fit;
         assumed-lie = st .assumed-lie;
         clauses-below = st .clauses-below;
         assumed-below = st .assumed-below;
@@ -162,7 +162,7 @@ module _ (h : House) (d : ℕ) (s : State) (st : Holds h 0 s) (e : h .solved ≡
         r,
         yes-house w,
         begins r (g .2 r (shows-done (amid h d s w ks) next 1 (yes-house w) 1 d (yes-state w ks) (sized-amid h d s st w ks (g .0) (g .1)) (new .sized) (yes-turn w ks full))),
-        outcome-done known h solve (flat s₁) (yes-house w) (1 ∷ []) kn refl (yes-solved w a) refl (writes-nothing h (yes-house w) refl),
+        outcome-done known h solve (flat s₁) (yes-house w) (1 ∷ []) [] kn refl (yes-solved w a) refl (writes-nothing h (yes-house w) refl),
         (1, d, yes-state w ks, refl, new),
       )
   solves known (with-core w ks t over part fails) kn =
@@ -174,16 +174,14 @@ module _ (h : House) (d : ℕ) (s : State) (st : Holds h 0 s) (e : h .solved ≡
         r,
         no-house ks,
         begins r (g .2 r (shows-done (amid h d s w ks) next 0 (no-house ks) (no-verdict ks) d t₁ (sized-amid h d s st w ks (g .0) (g .1)) (new .sized) (no-turn w ks over))),
-        outcome-done known h solve (flat s₁) (no-house ks) (0 ∷ []) kn refl (no-solved ks (part, fails)) refl (writes-nothing h (no-house ks) refl),
+        outcome-done known h solve (flat s₁) (no-house ks) (0 ∷ []) [] kn refl (no-solved ks (part, fails)) refl (writes-nothing h (no-house ks) refl),
         (no-verdict ks, d, t₁, refl, new),
       )
 
   search-ends : Search-ends → Ends (h .clauses) (h .assumed) (h .made) (fresh (s .work)) (zeros 1024)
   unfolding Search-ends
   search-ends ends =
-      let l : length (h .assumed) ≤ 1024 =
-      let a = st .sized .assumptions-long in
-      let b = ap length (sym (st .assumed-lie)) ∙ length-take (length (h .assumed)) (s .assumptions) in omega arith in
+      let l = assumed-few h 0 s st in
       ends (h .clauses) (h .assumed) (h .made) (s .work) (zeros 1024) (st .vars-in) (let k = st .sized .work-long in omega arith)
       (let k = length-zeros 1024 in omega arith) (st .clauses-below) (st .assumed-below)
 

@@ -1,5 +1,7 @@
 pub mod House
+pub mod Known
 pub mod Promise
+pub mod PrintBack
 pub mod State
 pub mod Machine
 pub mod Entry

@@ -70,13 +70,34 @@ num-assumptions s = scalar s 3
 abbrev pub verdict : State → ℕ
 verdict s = scalar s 4
 
--- 0 at rest, 1 searching, 2 showing the model
+-- 0 at rest, 1 searching, 2 showing the model, 3 showing the core, 4 printing, 5 telling what came of a file
 abbrev pub phase : State → ℕ
 phase s = scalar s 5
 
--- so many literals of the model are shown
+-- how far showing or printing has come: a variable, an assumption's place, a place in the arena
 abbrev pub cursor : State → ℕ
 cursor s = scalar s 6
+
+-- variables of the clauses alone, where num-vars has those that were only made or assumed as well
+abbrev pub clause-vars : State → ℕ
+clause-vars s = scalar s 7
+
+-- printing: 0 at a clause's beginning, else one more than the literals of it that are left; and the clauses that are left
+abbrev pub lits-left : State → ℕ
+lits-left s = scalar s 8
+
+abbrev pub clauses-left : State → ℕ
+clauses-left s = scalar s 9
+
+-- telling: 1 if a number is yet to be shown, that number, and the end: 0 done, else a refusal
+abbrev pub pending : State → ℕ
+pending s = scalar s 10
+
+abbrev pub pending-number : State → ℕ
+pending-number s = scalar s 11
+
+abbrev pub ending : State → ℕ
+ending s = scalar s 12
 
 abbrev pub with-num-vars : State → ℕ → State
 with-num-vars s v = with-scalar s 0 v
@@ -98,6 +119,24 @@ with-phase s v = with-scalar s 5 v
 
 abbrev pub with-cursor : State → ℕ → State
 with-cursor s v = with-scalar s 6 v
+
+abbrev pub with-clause-vars : State → ℕ → State
+with-clause-vars s v = with-scalar s 7 v
+
+abbrev pub with-lits-left : State → ℕ → State
+with-lits-left s v = with-scalar s 8 v
+
+abbrev pub with-clauses-left : State → ℕ → State
+with-clauses-left s v = with-scalar s 9 v
+
+abbrev pub with-pending : State → ℕ → State
+with-pending s v = with-scalar s 10 v
+
+abbrev pub with-pending-number : State → ℕ → State
+with-pending-number s v = with-scalar s 11 v
+
+abbrev pub with-ending : State → ℕ → State
+with-ending s v = with-scalar s 12 v
 
 -- what they stand for
 abbrev pub formula : State → List Clause

@@ -3,47 +3,26 @@
 ghost use mathlib.Core.Path.{_≡_};
 ghost use mathlib.Core.Bool.{_&&_};
 ghost use Prim.Native.Nat.{_+_, _≤_, _<_};
-ghost use lib.Dec.{eqb, leb, ltb};
+ghost use lib.Dec.{T, eqb, leb, ltb};
 ghost use lib.ListN.{length};
 ghost use Rattle.std.specs.declared.option.Option.the-variants.{Some, None};
 ghost use Rattle.formula.specs.Logic.{pick};
 ghost use Rattle.formula.specs.declared.clause.Place.{Place};
 ghost use Rattle.dimacs.specs.Text.{row-vars, larger};
 ghost use Rattle.dimacs.specs.Statements.{lits-fit};
+ghost use Rattle.dimacs.specs.declared.read.Outcome.the-variants.{Formula, Wrong};
 ghost use Rattle.solver.specs.State.{view, num-vars, num-clauses, arena-len, verdict};
-ghost use Rattle.solver.specs.Machine.{on-new-var, on-add, on-assume, on-solve, on-model, clause-fits};
-ghost use Rattle.solver.specs.Coded.{Sized, Within-room, told};
+ghost use Rattle.solver.specs.Machine.{on-new-var, on-add, on-assume, on-solve, on-model, on-core, on-print, on-read, on-outcome, clause-fits, counts-fit};
+ghost use Rattle.solver.specs.Coded.{Sized, Within-room, told, written-to};
 use crate::Told;
+use crate::limits::*;
 use crate::tables::*;
+use dimacs::read::Counts;
+use dimacs::read::Fault;
+use dimacs::read::Outcome;
+use dimacs::write::put_header;
 use formula::clause::Place;
 use formula::literal::variable;
-
-// Limits of what can be said.
-pub const MAX_VARS: u64 = 16384;
-
-const MAX_LITERAL: u64 = 32767;
-
-const MAX_ROW: usize = 1024;
-
-const MAX_CLAUSES: u64 = 16384;
-
-const MAX_LITERALS: u64 = 65536;
-
-// The verdict, as it stands in memory.
-pub const UNKNOWN: u64 = 0;
-
-pub const YES: u64 = 1;
-
-pub const NO: u64 = 2;
-// No, whatever is assumed.
-pub const NEVER: u64 = 3;
-
-// What the machine is at.
-pub const RESTING: u64 = 0;
-
-pub const SEARCHING: u64 = 1;
-
-pub const SHOWING: u64 = 2;
 
 fn larger_of(a: u64, b: u64) -> u64
     ensures { λ r. ⌜ r ≡ larger a b ⌝ }
@@ -134,11 +113,13 @@ pub fn add(m: &mut [u64], clause: &[u64]) -> Told
     let Some(place) = free_place(m, clause) else {
         return Told::No(7);
     };
+    let clause_vars = larger_of(read(m, CLAUSE_VARS), vars);
     let vars = larger_of(read(m, NUM_VARS), vars);
     let clauses = read(m, NUM_CLAUSES) + 1;
     let verdict = only_no(read(m, VERDICT));
     store_clause(m, place.start, clause);
     write(m, NUM_VARS, vars);
+    write(m, CLAUSE_VARS, clause_vars);
     write(m, NUM_CLAUSES, clauses);
     write(m, ARENA_LEN, place.start + (place.len + 1));
     write(m, VERDICT, verdict);
@@ -198,4 +179,105 @@ pub fn assume(m: &mut [u64], row: &[u64]) -> Told
     write(m, VERDICT, verdict);
     write(m, PHASE, RESTING);
     Told::Done
+}
+
+// A core that isn't empty is shown an assumption at a time; of an empty one there is nothing to show.
+pub fn core(m: &mut [u64]) -> Told
+    requires { ⌜ Sized (now m) ⌝ }
+    ensures after { λ _. ⌜ view (now (m .exit)) ≡ on-core (view (now (m .entry))) .state ⌝ }
+    ensures answer { λ r. ⌜ told (on-core (view (now (m .entry))) .act) ≡ r ⌝ }
+{
+    match read(m, VERDICT) {
+        NO => {
+            write(m, CURSOR, 0);
+            write(m, PHASE, SHOWING_CORE);
+            Told::Writes(0)
+        }
+        NEVER => {
+            write(m, PHASE, RESTING);
+            Told::Done
+        }
+        _ => Told::No(4),
+    }
+}
+
+// The header; the clauses come as it goes on.
+pub fn print(m: &mut [u64], out: &mut [u8]) -> Told
+    requires { ⌜ Sized (now m) ⌝ ∗ ⌜ 128 ≤ length (now out) ⌝ }
+    ensures after { λ _. ⌜ view (now (m .exit)) ≡ on-print (view (now (m .entry))) .state ⌝ }
+    ensures answer { λ r. ⌜ told (on-print (view (now (m .entry))) .act) ≡ r ⌝ }
+    ensures bytes { λ _. ⌜ written-to (on-print (view (now (m .entry))) .act) (now (out .entry)) ≡ now (out .exit) ⌝ }
+{
+    let vars = read(m, CLAUSE_VARS);
+    let clauses = read(m, NUM_CLAUSES);
+    write(m, CURSOR, 0);
+    write(m, LITS_LEFT, 0);
+    write(m, CLAUSES_LEFT, clauses);
+    write(m, PHASE, PRINTING);
+    Told::Writes(put_header(vars, clauses, out))
+}
+
+// A file's clauses are added, all or none.
+pub fn read_in(m: &mut [u64], bytes: &[u8]) -> Told
+    requires { ⌜ Sized (now m) ⌝ ∗ ⌜ length (now bytes) ≤ 1048576 ⌝ }
+    ensures after { λ _. ⌜ view (now (m .exit)) ≡ on-read (view (now (m .entry))) (now (bytes .entry)) .state ⌝ }
+    ensures answer { λ r. ⌜ told (on-read (view (now (m .entry))) (now (bytes .entry)) .act) ≡ r ⌝ }
+{
+    let start = read(m, ARENA_LEN);
+    match read_file(m, bytes, start) {
+        Outcome::Formula(counts) => take_clauses(m, counts),
+        Outcome::Wrong(fault) => tell_fault(m, fault),
+    }
+}
+
+// What is wrong in a file: the first number is shown now, the second and the refusal as it goes on.
+fn tell_fault(m: &mut [u64], fault: Fault) -> Told
+    requires { ⌜ Sized (now m) ⌝ }
+    ensures after { λ _. ⌜ view (now (m .exit)) ≡ on-outcome (view (now (m .entry))) (Wrong fault) .state ⌝ }
+    ensures answer { λ r. ⌜ told (on-outcome (view (now (m .entry))) (Wrong fault) .act) ≡ r ⌝ }
+{
+    write(m, PENDING, fault.shown.saturating_sub(1));
+    write(m, PENDING_NUMBER, fault.second);
+    write(m, ENDING, fault.number);
+    write(m, PHASE, TELLING);
+    Told::Shows(fault.first)
+}
+
+fn counts_fit(m: &[u64], counts: Counts) -> bool
+    requires { ⌜ Sized (now m) ⌝ }
+    ensures { λ r. ⌜ r ≡ counts-fit (view (now (m .entry))) counts ⌝ }
+    ensures bounds { λ r. ⌜ (T r → num-clauses (view (now (m .entry))) + counts .clauses ≤ 16384) ⌝ ∗ ⌜ (T r → arena-len (view (now (m .entry))) + counts .literals ≤ 81920) ⌝ }
+{
+    let clauses = read(m, NUM_CLAUSES);
+    let literals = read(m, ARENA_LEN).saturating_sub(clauses);
+    counts.clauses <= MAX_CLAUSES
+        && clauses <= MAX_CLAUSES - counts.clauses
+        && counts.literals <= MAX_LITERALS
+        && literals <= MAX_LITERALS - counts.literals
+}
+
+// The clauses lie in the arena already; with the counts they are the formula's.
+fn take_clauses(m: &mut [u64], counts: Counts) -> Told
+    requires { ⌜ Sized (now m) ⌝ }
+    ensures after { λ _. ⌜ view (now (m .exit)) ≡ on-outcome (view (now (m .entry))) (Formula counts) .state ⌝ }
+    ensures answer { λ r. ⌜ told (on-outcome (view (now (m .entry))) (Formula counts) .act) ≡ r ⌝ }
+{
+    if !counts_fit(m, counts) {
+        return Told::No(7);
+    }
+    let clauses = read(m, NUM_CLAUSES) + counts.clauses;
+    let end = read(m, ARENA_LEN) + (counts.literals + counts.clauses);
+    let vars = larger_of(read(m, NUM_VARS), counts.vars);
+    let clause_vars = larger_of(read(m, CLAUSE_VARS), counts.vars);
+    let verdict = only_no(read(m, VERDICT));
+    write(m, NUM_VARS, vars);
+    write(m, CLAUSE_VARS, clause_vars);
+    write(m, NUM_CLAUSES, clauses);
+    write(m, ARENA_LEN, end);
+    write(m, VERDICT, verdict);
+    write(m, PENDING, 1);
+    write(m, PENDING_NUMBER, clauses);
+    write(m, ENDING, 0);
+    write(m, PHASE, TELLING);
+    Told::Shows(clause_vars)
 }

@@ -1,10 +1,10 @@
 // The solver as a machine: what its commands answer, and the functions whose contracts promise it.
 ghost use mathlib.Core.Path.{_≡_};
 ghost use Prim.Native.Nat.{_≤_};
-ghost use lib.ListN.{length};
-ghost use Rattle.solver.specs.House.{core};
+ghost use lib.ListN.{length, replicate};
+ghost use Rattle.solver.specs.Known.{all-but-proofs};
 ghost use Rattle.solver.specs.Promise.{Whole};
-ghost use Rattle.solver.specs.State.{zeros};
+ghost use Rattle.solver.specs.PrintBack.{Prints-back};
 ghost use Rattle.solver.specs.Entry.{own, Term-says, term-fits, smaller, term, Step-says, step-fits};
 use formula::table::clear;
 
@@ -12,6 +12,7 @@ pub mod collected;
 mod commands;
 mod going;
 pub mod kind;
+mod limits;
 pub mod run;
 pub mod statements;
 mod tables;
@@ -78,12 +79,21 @@ fn term_of(n: u64) -> u64
     1
 }
 
-// A memory cleared. From there on every list of commands is answered by the truth of clauses alone.
+// The machine's promises, over every list of commands.
+fn promises()
+    ensures whole { λ _. ⌜ Whole all-but-proofs own ⌝ }
+    ensures printed { λ _. ⌜ Prints-back own ⌝ }
+{}
+
+// A memory cleared. From there on every list of commands is answered by the truth of clauses alone, and what is printed is read as
+// what it was.
 pub fn begin(memory: &mut [u64])
-    ensures cleared { λ _. ⌜ now (memory .exit) ≡ zeros (length (now (memory .entry))) ⌝ }
-    ensures whole { λ _. ⌜ Whole core own ⌝ }
+    ensures cleared { λ _. ⌜ now (memory .exit) ≡ replicate (length (now (memory .entry))) 0 ⌝ }
+    ensures whole { λ _. ⌜ Whole all-but-proofs own ⌝ }
+    ensures printed { λ _. ⌜ Prints-back own ⌝ }
 {
-    clear(memory)
+    clear(memory);
+    promises();
 }
 
 // Whether memory, kind, row, bytes and room for bytes are such as a step can be taken with.
@@ -108,7 +118,10 @@ pub fn step(memory: &mut [u64], kind: u64, row: &[u64], bytes: &[u8], out: &mut 
         kind::ASSUME => commands::assume(memory, row),
         kind::SOLVE => commands::solve(memory),
         kind::MODEL => commands::model(memory),
-        kind::GO_ON => going::go_on(memory),
+        kind::CORE => commands::core(memory),
+        kind::READ => commands::read_in(memory, bytes),
+        kind::PRINT => commands::print(memory, out),
+        kind::GO_ON => going::go_on(memory, out),
         _ => Told::No(2),
     }
 }

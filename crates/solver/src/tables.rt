@@ -4,9 +4,13 @@ ghost use mathlib.Core.Path.{_≡_};
 ghost use lib.ListN.{set};
 ghost use lib.Seq.{sets};
 ghost use Rattle.formula.specs.Arena.{clause-row};
+ghost use Rattle.dimacs.specs.Text.{file-read};
+ghost use Rattle.dimacs.specs.Scan.{table-after, outcome-of};
 ghost use Rattle.solver.specs.State.{view, zeros, scalar, with-scalar, with-assumptions, with-core, with-model, with-arena, with-work, assumed};
 ghost use Rattle.search.specs.Plain.{fresh, act};
 ghost use Rattle.solver.specs.Coded.{Sized};
+use dimacs::read::Outcome;
+use dimacs::read::read_formula;
 use formula::clause::store;
 use formula::table::clear;
 use formula::table::get;
@@ -31,6 +35,8 @@ const WORK: usize = 100608;
 
 pub const SIZE: usize = 524288;
 
+pub const ARENA_SIZE: u64 = 81920;
+
 // The scalars, by their place.
 pub const NUM_VARS: u64 = 0;
 
@@ -45,6 +51,40 @@ pub const VERDICT: u64 = 4;
 pub const PHASE: u64 = 5;
 
 pub const CURSOR: u64 = 6;
+
+pub const CLAUSE_VARS: u64 = 7;
+
+pub const LITS_LEFT: u64 = 8;
+
+pub const CLAUSES_LEFT: u64 = 9;
+
+pub const PENDING: u64 = 10;
+
+pub const PENDING_NUMBER: u64 = 11;
+
+pub const ENDING: u64 = 12;
+
+// The verdict.
+pub const UNKNOWN: u64 = 0;
+
+pub const YES: u64 = 1;
+
+pub const NO: u64 = 2;
+// No, whatever is assumed.
+pub const NEVER: u64 = 3;
+
+// The phase: what the machine is at.
+pub const RESTING: u64 = 0;
+
+pub const SEARCHING: u64 = 1;
+
+pub const SHOWING: u64 = 2;
+
+pub const SHOWING_CORE: u64 = 3;
+
+pub const PRINTING: u64 = 4;
+
+pub const TELLING: u64 = 5;
 
 fn scalars(m: &[u64]) -> &[u64]
     requires { ⌜ Sized (now m) ⌝ }
@@ -67,7 +107,7 @@ pub fn write(m: &mut [u64], i: u64, value: u64)
     put(&mut m[SCALARS..ASSUMPTIONS], i, value)
 }
 
-fn assumptions(m: &[u64]) -> &[u64]
+pub fn assumptions(m: &[u64]) -> &[u64]
     requires { ⌜ Sized (now m) ⌝ }
     ensures { λ r. ⌜ now r ≡ view (now (m .entry)) .assumptions ⌝ }
 {
@@ -157,4 +197,13 @@ pub fn act_on_work(m: &mut [u64], finding: Finding)
     ensures { λ _. ⌜ view (now (m .exit)) ≡ with-work (view (now (m .entry))) (act (view (now (m .entry)) .work) finding) ⌝ }
 {
     plain::act(&mut m[WORK..SIZE], finding)
+}
+
+// A file's clauses, written into the arena behind the others.
+pub fn read_file(m: &mut [u64], bytes: &[u8], start: u64) -> Outcome
+    requires { ⌜ Sized (now m) ⌝ }
+    ensures after { λ _. ⌜ view (now (m .exit)) ≡ with-arena (view (now (m .entry))) (table-after (view (now (m .entry)) .arena) start (now (bytes .entry))) ⌝ }
+    ensures answer { λ r. ⌜ r ≡ outcome-of (file-read (now (bytes .entry))) ⌝ }
+{
+    read_formula(bytes, &mut m[ARENA..WORK], start)
 }
