@@ -1,6 +1,7 @@
 // Clauses in lent memory: rows of literals, and the place of one in a table as a value.
 ghost use mathlib.Core.Path.{_≡_};
 ghost use lib.ListN.{take, drop};
+ghost use lib.Dec.{eqb};
 ghost use lib.Seq.{sets};
 ghost use Rattle.formula.specs.Logic.{has};
 ghost use Rattle.formula.specs.Arena.{clause-row};
@@ -22,12 +23,18 @@ pub fn literals_at(table: &[u64], place: Place) -> &[u64]
     part(table, place.start, place.len)
 }
 
+fn is_literal(x: u64, lit: u64) -> bool
+    ensures { λ r. ⌜ r ≡ eqb lit x ⌝ }
+{
+    x == lit
+}
+
 // Whether a literal is in a clause.
 pub fn contains(clause: &[u64], lit: u64) -> bool
     ensures { λ r. ⌜ r ≡ has (now (clause .entry)) lit ⌝ }
 {
     for x in clause {
-        if *x == lit {
+        if is_literal(*x, lit) {
             return true;
         }
     }

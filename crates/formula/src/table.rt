@@ -1,6 +1,7 @@
 // Tables of numbers in lent memory. Nothing is refused: a read past the end is 0, a write past the end
 // changes nothing, so that code over memory of unknown contents stays safe.
 ghost use mathlib.Core.Path.{_≡_};
+ghost use Prim.Native.Nat.{min};
 ghost use lib.ListN.{getD, set, take, drop, length, replicate};
 ghost use lib.Seq.{sets};
 
@@ -20,12 +21,18 @@ pub fn put(table: &mut [u64], i: u64, value: u64)
     }
 }
 
+fn clamp(n: u64, most: usize) -> usize
+    ensures { λ r. ⌜ r ≡ min n most ⌝ }
+{
+    (n as usize).min(most)
+}
+
 // The part of at most `len` numbers from `start` on.
 pub fn part(table: &[u64], start: u64, len: u64) -> &[u64]
     ensures { λ r. ⌜ now r ≡ take len (drop start (now (table .entry))) ⌝ }
 {
-    let start = (start as usize).min(table.len());
-    let len = (len as usize).min(table.len() - start);
+    let start = clamp(start, table.len());
+    let len = clamp(len, table.len() - start);
     &table[start..start + len]
 }
 
@@ -33,7 +40,7 @@ pub fn part(table: &[u64], start: u64, len: u64) -> &[u64]
 pub fn write_row(table: &mut [u64], start: u64, row: &[u64])
     ensures { λ _. ⌜ now (table .exit) ≡ sets (now (table .entry)) start (now (row .entry)) ⌝ }
 {
-    let mut i = (start as usize).min(table.len());
+    let mut i = clamp(start, table.len());
     for value in row {
         if i >= table.len() {
             return;

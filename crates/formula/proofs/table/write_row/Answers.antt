@@ -6,7 +6,7 @@ use Rattle.formula.proofs.Tables.{sets-past, sets-more, sets-from}
 use Rattle.formula.proofs.table.write_row.Needs as need
 
 pub loop-value-holds : need.loop-value-holds
-loop-value-holds c = sets-from (c .args .table .now) (c .args .row .now) (c .args .start) (c .min-i .result) (c .min-i .ensures)
+loop-value-holds c = sets-from (c .args .table .now) (c .args .row .now) (c .args .start) (c .clamp-i .result) (c .clamp-i .ensures)
 
 pub loop-value-again : need.loop-value-again
 loop-value-again c = sym (sets-more _ _ _ _ (c .loop-value-test .taken)) ∙ c .loop-value .inv
