@@ -3,11 +3,13 @@
 ghost use mathlib.Core.Path.{_≡_};
 ghost use mathlib.Core.Bool.{_&&_};
 ghost use Prim.Native.Nat.{_+_, _≤_, _<_};
-ghost use lib.Dec.{T, eqb, leb, ltb};
+ghost use lib.Dec.{eqb, leb, ltb};
 ghost use lib.ListN.{length};
+ghost use Rattle.std.specs.Options.{Cases as BySome};
 ghost use Rattle.std.specs.declared.option.Option.the-variants.{Some, None};
 ghost use Rattle.formula.specs.Logic.{pick};
 ghost use Rattle.formula.specs.declared.clause.Place.{Place};
+ghost use Rattle.solver.specs.declared.commands.Room.{Room};
 ghost use Rattle.dimacs.specs.Text.{row-vars, larger};
 ghost use Rattle.dimacs.specs.Statements.{lits-fit};
 ghost use Rattle.dimacs.specs.declared.read.Outcome.the-variants.{Formula, Wrong};
@@ -68,15 +70,24 @@ fn only_never(verdict: u64) -> u64
     if verdict == NEVER { NEVER } else { UNKNOWN }
 }
 
+// The number of the next variable, if there is room for one.
+fn next_var(m: &[u64]) -> Option<u64>
+    requires { ⌜ Sized (now m) ⌝ }
+    ensures number { λ r. ⌜ r ≡ pick (ltb (num-vars (view (now (m .entry)))) 16384) (Some (num-vars (view (now (m .entry))))) None ⌝ }
+    ensures bound { λ r. ⌜ BySome r (Unit {0}) (λ n. n < 16384) ⌝ }
+{
+    let vars = read(m, NUM_VARS);
+    if vars < MAX_VARS { Some(vars) } else { None }
+}
+
 pub fn new_var(m: &mut [u64]) -> Told
     requires { ⌜ Sized (now m) ⌝ }
     ensures after { λ _. ⌜ view (now (m .exit)) ≡ on-new-var (view (now (m .entry))) .state ⌝ }
     ensures answer { λ r. ⌜ told (on-new-var (view (now (m .entry))) .act) ≡ r ⌝ }
 {
-    let vars = read(m, NUM_VARS);
-    if vars >= MAX_VARS {
+    let Some(vars) = next_var(m) else {
         return Told::No(7);
-    }
+    };
     let verdict = without_yes(read(m, VERDICT));
     write(m, NUM_VARS, vars + 1);
     write(m, VERDICT, verdict);
@@ -155,9 +166,9 @@ pub fn model(m: &mut [u64]) -> Told
     ensures after { λ _. ⌜ view (now (m .exit)) ≡ on-model (view (now (m .entry))) .state ⌝ }
     ensures answer { λ r. ⌜ told (on-model (view (now (m .entry))) .act) ≡ r ⌝ }
 {
-    if read(m, VERDICT) != YES {
+    let YES = read(m, VERDICT) else {
         return Told::No(4);
-    }
+    };
     write(m, CURSOR, 0);
     write(m, PHASE, SHOWING);
     Told::Writes(0)
@@ -243,17 +254,31 @@ fn tell_fault(m: &mut [u64], fault: Fault) -> Told
     Told::Shows(fault.first)
 }
 
-fn counts_fit(m: &[u64], counts: Counts) -> bool
+// The clauses and the arena's end with a file's clauses, if there is room for them.
+#[derive(Clone, Copy)]
+pub struct Room {
+    clauses: u64,
+    end: u64,
+}
+
+fn room_for_file(m: &[u64], counts: Counts) -> Option<Room>
     requires { ⌜ Sized (now m) ⌝ }
-    ensures { λ r. ⌜ r ≡ counts-fit (view (now (m .entry))) counts ⌝ }
-    ensures bounds { λ r. ⌜ (T r → num-clauses (view (now (m .entry))) + counts .clauses ≤ 16384) ⌝ ∗ ⌜ (T r → arena-len (view (now (m .entry))) + counts .literals ≤ 81920) ⌝ }
+    ensures { λ r. ⌜ r ≡ pick (counts-fit (view (now (m .entry))) counts) (Some (record { clauses = num-clauses (view (now (m .entry))) + counts .clauses; end = arena-len (view (now (m .entry))) + (counts .literals + counts .clauses) })) None ⌝ }
 {
     let clauses = read(m, NUM_CLAUSES);
-    let literals = read(m, ARENA_LEN).saturating_sub(clauses);
-    counts.clauses <= MAX_CLAUSES
-        && clauses <= MAX_CLAUSES - counts.clauses
-        && counts.literals <= MAX_LITERALS
-        && literals <= MAX_LITERALS - counts.literals
+    let start = read(m, ARENA_LEN);
+    if counts.clauses > MAX_CLAUSES || clauses > MAX_CLAUSES - counts.clauses {
+        return None;
+    }
+    if counts.literals > MAX_LITERALS
+        || start.saturating_sub(clauses) > MAX_LITERALS - counts.literals
+    {
+        return None;
+    }
+    Some(Room {
+        clauses: clauses + counts.clauses,
+        end: start + (counts.literals + counts.clauses),
+    })
 }
 
 // The clauses lie in the arena already; with the counts they are the formula's.
@@ -262,21 +287,19 @@ fn take_clauses(m: &mut [u64], counts: Counts) -> Told
     ensures after { λ _. ⌜ view (now (m .exit)) ≡ on-outcome (view (now (m .entry))) (Formula counts) .state ⌝ }
     ensures answer { λ r. ⌜ told (on-outcome (view (now (m .entry))) (Formula counts) .act) ≡ r ⌝ }
 {
-    if !counts_fit(m, counts) {
+    let Some(room) = room_for_file(m, counts) else {
         return Told::No(7);
-    }
-    let clauses = read(m, NUM_CLAUSES) + counts.clauses;
-    let end = read(m, ARENA_LEN) + (counts.literals + counts.clauses);
+    };
     let vars = larger_of(read(m, NUM_VARS), counts.vars);
     let clause_vars = larger_of(read(m, CLAUSE_VARS), counts.vars);
     let verdict = only_no(read(m, VERDICT));
     write(m, NUM_VARS, vars);
     write(m, CLAUSE_VARS, clause_vars);
-    write(m, NUM_CLAUSES, clauses);
-    write(m, ARENA_LEN, end);
+    write(m, NUM_CLAUSES, room.clauses);
+    write(m, ARENA_LEN, room.end);
     write(m, VERDICT, verdict);
     write(m, PENDING, 1);
-    write(m, PENDING_NUMBER, clauses);
+    write(m, PENDING_NUMBER, room.clauses);
     write(m, ENDING, 0);
     write(m, PHASE, TELLING);
     Told::Shows(clause_vars)
