@@ -1,0 +1,11 @@
+pub mod Input
+pub mod Standing
+pub mod Forced
+pub mod Outcomes
+pub mod Going
+pub mod Right
+pub mod Lexing
+pub mod Reading
+pub mod Views
+pub mod Verified
+pub mod ReadBack
