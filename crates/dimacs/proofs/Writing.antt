@@ -113,19 +113,7 @@ pub length-literal : (l : ℕ) → length (literal-piece l) ≤ 22
 unfolding literal-piece
 length-literal l = let a = number-few (suc (l / 2)) in simp length-append (grind arith)
 
-pub length-end : length end-piece ≡ 2
-unfolding end-piece
-length-end = refl
-
 -- and a formula's text as its pieces
 pub formula-pieces : (cs : List Clause) → formula-text cs ≡ header-text (vars-of cs) (length cs) ++ clauses-text cs
 unfolding formula-text header-text
 formula-pieces cs = sym (append-assoc (((112 ∷ 32 ∷ 99 ∷ 110 ∷ 102 ∷ 32 ∷ []) ++ number-text (vars-of cs)) ++ 32 ∷ number-text (length cs)) (10 ∷ []) (clauses-text cs))
-
-pub clause-pieces : (l : ℕ) (ls : List ℕ) → clause-text (l ∷ ls) ≡ literal-piece l ++ clause-text ls
-unfolding clause-text literal-piece
-clause-pieces l ls = sym (append-assoc (literal-text l) (32 ∷ []) (clause-text ls))
-
-pub clause-end : clause-text [] ≡ end-piece
-unfolding clause-text end-piece
-clause-end = refl

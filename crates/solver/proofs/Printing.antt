@@ -14,6 +14,7 @@ use Rattle.formula.specs.Logic.{added-up, how-large, Clause}
 use Rattle.formula.specs.Arena.{rows-of, clause-row, size}
 use Rattle.dimacs.specs.Text.{number-text, literal-text, clause-text, clauses-text, formula-text, vars-of}
 use Rattle.dimacs.specs.Pieces.{header-text, literal-piece, end-piece}
+use Rattle.dimacs.proofs.Writing.{length-header, length-literal, formula-pieces}
 use Rattle.solver.specs.House.{House, Command, print-it, refusal, After, shown, written}
 use Rattle.solver.specs.Promise.{said, next, writes, done, Ran, ran}
 use Rattle.solver.specs.State.{State, flat, with-scalars, scalar}
@@ -22,23 +23,13 @@ use Rattle.solver.proofs.Layouts.{Sized, sized-scalars}
 use Rattle.solver.proofs.Arenas.{fitting-parts}
 use Rattle.solver.proofs.Invariant.{state-of, resting, sized-state-of, Holds, Answer, outcome-done, Goes, goes-done, goes-writes, goes-quiet}
 use Rattle.solver.proofs.Growing.{holds-kept}
-use Rattle.solver.proofs.TextSizes.{length-number, length-literal}
 
 -- PIECES ARE SHORT
 header-short : (v c : ℕ) → leb (length (header-text v c)) 128 ≡ true
-unfolding header-text
-header-short v c =
-    let a = length-number v in let b = length-number c in
-    le-leb _ _ (simp length-append (omega arith))
+header-short v c = let a = length-header v c in le-leb _ _ (omega arith)
 
 piece-short : (l : ℕ) → leb (length (literal-piece l)) 128 ≡ true
-unfolding literal-piece
-piece-short l = let a = length-literal l in let b = length-append (literal-text l) (32 ∷ []) in le-leb _ _ (omega arith)
-
-header-then : (cs : List Clause) → header-text (vars-of cs) (length cs) ++ clauses-text cs ≡ formula-text cs
-unfolding header-text formula-text
-header-then cs =
-    append-assoc ((112 ∷ 32 ∷ 99 ∷ 110 ∷ 102 ∷ 32 ∷ []) ++ number-text (vars-of cs) ++ 32 ∷ number-text (length cs)) (10 ∷ []) (clauses-text cs)
+piece-short l = let a = length-literal l in le-leb _ _ (omega arith)
 
 -- IN THE ARENA: what stands at a place, and what behind it
 module _ (ar : List ℕ) (long : length ar ≡ 81920) where
@@ -156,7 +147,7 @@ module _ (h : House) (v : ℕ) (s : State) (st : Holds h v s) where
       let g = goes-clauses cs (drop (size cs) (s .arena)) 0 head lie (omega arith) few₁ in (
         g .0,
         goes-writes (resting h v d s) (at 0 0 (length cs)) (said print-it) [] [] (sized-state-of h v 0 d s (st .sized)) head _ (header-short (vars-of cs) (length cs)) refl
-            (subst (λ (x : List ℕ). Goes (at 0 0 (length cs)) next [] head (ran (flat (resting h v (g .0) (with-left s 0 0))) [] x 0)) (header-then cs) (g .1)),
+            (subst (λ (x : List ℕ). Goes (at 0 0 (length cs)) next [] head (ran (flat (resting h v (g .0) (with-left s 0 0))) [] x 0)) (sym (formula-pieces cs)) (g .1)),
       )
 
   holds-printed : Holds h v (with-left s 0 0)

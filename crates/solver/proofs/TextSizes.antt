@@ -1,5 +1,5 @@
 -- How long the text of a formula is: within the limits of clauses and literals it is bytes, and no more than can be read at once.
--- `text-fits` is promised of it; the lengths of its pieces serve printing.
+-- `text-fits` is promised of it.
 use mathlib.Core.Path.{_≡_, refl}
 use mathlib.Core.Bool.{Bool, true}
 use mathlib.Core.List.{List, [], _∷_}
@@ -11,32 +11,13 @@ use Rattle.std.proofs.shelf.Tests.{ltb-true, lt-ltb, le-leb, and-parts, and-fro
 use Rattle.formula.specs.Logic.{every, added-up, how-large, Clause}
 use Rattle.dimacs.specs.Text.{digits-rev, turned, number-text, literal-text, clause-text, clauses-text, formula-text, vars-of}
 use Rattle.dimacs.specs.Statements.{lits-fit}
+use Rattle.dimacs.proofs.Writing.{length-turned, number-few}
 use Rattle.solver.specs.House.{fitting}
 use Rattle.solver.specs.Machine.{file-fits}
 use Rattle.solver.proofs.Picks.{pick-both, every-append, every-one}
 use Rattle.solver.proofs.Arenas.{fitting-parts}
 
--- LENGTHS
-length-turned : (xs : List ℕ) → length (turned xs) ≡ length xs
-unfolding turned
-length-turned [] = refl
-length-turned (x ∷ xs) = let a = length-turned xs in let b = length-append (turned xs) (x ∷ []) in omega arith
-
-length-digits : (f n : ℕ) → length (digits-rev f n) ≤ f
-unfolding digits-rev
-length-digits zero n = omega arith
-length-digits (suc f) n =
-    pick-both (λ (x : List ℕ). length x ≤ suc f) (ltb n 10) _ _ (λ e. omega arith) (λ e. let l = length-digits f (n / 10) in omega arith)
-
-pub length-number : (n : ℕ) → length (number-text n) ≤ 20
-length-number n = let a = length-turned (digits-rev 20 n) in let b = length-digits 20 n in omega arith
-
-pub length-literal : (l : ℕ) → length (literal-text l) ≤ 21
-length-literal l =
-    let a = length-number (suc (l / 2)) in
-    pick-both (λ (x : List ℕ). length x ≤ 21) (eqb (l % 2) 1) (45 ∷ number-text (suc (l / 2))) (number-text (suc (l / 2))) (λ e. omega arith) (λ e. omega arith)
-
--- of a small number
+-- OF SMALL NUMBERS
 few-digits : (k f n : ℕ) → n < 10 ^ suc k → length (digits-rev f n) ≤ suc k
 unfolding digits-rev
 few-digits k zero n h = omega arith
@@ -78,8 +59,8 @@ short-text cs e fit =
     let q = fitting-parts cs fit in
     let q₀ = q .0 in
     let q₁ = q .1 in
-    let a = length-number (vars-of cs) in
-    let b = length-number (length cs) in
+    let a = number-few (vars-of cs) in
+    let b = number-few (length cs) in
     let s = short-clauses cs e in
     simp length-append (omega arith)
 
