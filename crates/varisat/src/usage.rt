@@ -25,10 +25,10 @@ commands, with variables from 1 and a minus for negation:
   core              assumptions that can't all be true, ended by 0
   read FILE         the clauses of a file; the numbers of variables and of clauses are told
   print             the clauses as a file has them
-  prove [FILE]      from now on, write a proof
+  prove [FILE]      not known yet: refused with 2
   help              the commands
   # ...             a comment
 ";
 
 pub const COMMANDS: &str =
-    "new | add LITERALS 0 | assume LITERALS 0 | solve | model | core | read FILE | print | prove [FILE] | help | # a comment";
+    "new | add LITERALS 0 | assume LITERALS 0 | solve | model | core | read FILE | print | help | # a comment";
