@@ -1,12 +1,11 @@
 -- That propagation is complete: if it ends with no conflict, what it took to be true is settled by the clauses. So a chain of forced literals that ends in a
 -- conflict shows that a clause follows by propagation.
-use Rattle.std.proofs.Common.{◌≡◌, ℕ, zero, suc, ◌+◌, ◌-◌, ◌*◌, ◌/◌, ◌%◌, ◌<◌, ◌≤◌, Bool, true, false, not, ◌&&◌, eqb, ltb, leb, ◌⊎◌, List, [], ◌∷◌, ◌++◌, length, take, sym, refl, ap, ◌∙◌, subst, inl, inr, true≢false, arith}
-use mathlib.Core.Bool.{false≢true}
-use Rattle.std.proofs.lemmas.Bool.{not-true, not-false, not_from_true, not_from_false, eqb-true, eqb-false, eq-eqb, ne_eqb, and_parts, and_from, and_cases}
+use Rattle.std.proofs.Common.{◌≡◌, ℕ, zero, suc, ◌<◌, ◌≤◌, Bool, true, false, not, ◌&&◌, eqb, ◌⊎◌, List, [], ◌∷◌, ◌++◌, length, sym, refl, ap, ◌∙◌, subst, inl, inr, arith}
+use Rattle.std.proofs.lemmas.Bool.{not-true, not_from_false, eqb-true, eq-eqb, and_parts, and_from}
 use Rattle.formula.specs.Logic.{pick, or, every, any, those, each, none_of, has, other, Clause, false_by, open_of, conflict, all_equal, makes_unit, first_unit, refuted, by_propagation, added_up, how_large}
 use Rattle.formula.specs.Statements.{Resolves}
-use Rattle.formula.proofs.Rows.{clash, or_left, or_right, or_cases, or_parts, so_false, so_true, In, Sub, in_left, in_right, in_cases, in_each, each_in, every_at, every_of, every_not, any_at, any_of, any_none, none_any, in_those, those_in, has_in, in_has, has_not, not_has}
-use Rattle.formula.proofs.Soundness.{other_other, other_even, other_odd, even_or_odd, Settled, Found, unit_of, not_refuted}
+use Rattle.formula.proofs.Rows.{clash, or_left, or_right, or_cases, or_parts, so_true, In, Sub, in_left, in_right, in_each, each_in, every_at, every_of, any_at, any_of, any_none, none_any, in_those, those_in, has_in, in_has, has_not, not_has}
+use Rattle.formula.proofs.Soundness.{other_other, Settled, Found, unit_of, not_refuted}
 
 -- COUNTS
 pub those_le : {A : Type 0} (f g : A → Bool) (xs : List A) → ((x : A) → f x ≡ true → g x ≡ true) → length (those f xs) ≤ length (those g xs)

@@ -1,7 +1,7 @@
 -- Clauses that are deleted: how many of a row of literals are left, and that a shorter clause does for a longer one.
-use Rattle.std.proofs.Common.{◌≡◌, ℕ, zero, suc, ◌+◌, ◌<◌, ◌≤◌, Bool, true, false, not, ◌&&◌, ◌⊎◌, List, [], ◌∷◌, ◌++◌, length, sym, refl, ap, ◌∙◌, subst, inl, inr, arith}
+use Rattle.std.proofs.Common.{◌≡◌, ℕ, ◌+◌, ◌≤◌, Bool, true, false, List, [], ◌∷◌, length, sym, refl, subst, inl, arith}
 use Rattle.std.proofs.lemmas.Bool.{and_parts, and_from}
-use Rattle.formula.specs.Logic.{pick, every, any, those, has, other, Clause, by_propagation, same_row, without}
+use Rattle.formula.specs.Logic.{every, those, has, Clause, by_propagation, same_row, without}
 use Rattle.formula.proofs.Rows.{In, Sub, every_of, in_has, those_in}
 use Rattle.formula.proofs.Soundness.{row_sub, Settled}
 use Rattle.formula.proofs.Completeness.{complete, follows_not}

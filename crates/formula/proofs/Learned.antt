@@ -1,12 +1,12 @@
 -- For a search that learns: clauses that are implied, learned clauses from marks and ranks, steps one after another, models and cores.
-use Rattle.std.proofs.Common.{◌≡◌, ℕ, zero, suc, ◌+◌, ◌-◌, ◌*◌, ◌/◌, ◌%◌, ◌<◌, ◌≤◌, Bool, true, false, not, ◌&&◌, eqb, ltb, leb, ◌⊎◌, List, [], ◌∷◌, ◌++◌, sym, refl, ap, ◌∙◌, subst, inl, inr, true≢false, arith}
+use Rattle.std.proofs.Common.{◌≡◌, ℕ, zero, suc, ◌<◌, Bool, true, false, not, ◌⊎◌, List, [], ◌∷◌, ◌++◌, sym, refl, ap, ◌∙◌, subst, inl, inr, arith}
 use mathlib.Core.Bool.{false≢true}
-use Rattle.std.proofs.lemmas.Bool.{and_parts, and_from, eqb-true, not_from_false}
-use Rattle.formula.specs.Logic.{pick, or, every, any, each, none_of, has, other, Clause, Truth, truth_of, true_in, clause_true, all_true, CanBe, CannotBe, units, by_propagation, same_row, Step, adds, deletes, without, holds, has_empty}
+use Rattle.std.proofs.lemmas.Bool.{and_parts, and_from}
+use Rattle.formula.specs.Logic.{pick, or, any, each, has, other, Clause, Truth, truth_of, true_in, clause_true, all_true, CannotBe, units, by_propagation, same_row, Step, adds, deletes, without, holds, has_empty}
 use Rattle.formula.specs.Statements.{PropagationSound}
-use Rattle.formula.proofs.Rows.{clash, or_cases, so_false, In, Sub, in_left, in_right, in_each, each_in, every_at, every_of, any_at, any_of, has_in, in_has, not_has}
-use Rattle.formula.proofs.Soundness.{other_other, other_even, other_odd, even_or_odd, true_even, true_odd, true_other, clause_of, Settled, propagation_sound, without_sub}
-use Rattle.formula.proofs.Completeness.{Consistent, other_apart, complete, forced_in, clash_in}
+use Rattle.formula.proofs.Rows.{clash, so_false, In, in_left, in_right, in_each, each_in, every_at, every_of, any_at, has_in, in_has}
+use Rattle.formula.proofs.Soundness.{true_other, clause_of, Settled, propagation_sound, without_sub}
+use Rattle.formula.proofs.Completeness.{Consistent, complete, forced_in, clash_in}
 
 -- IMPLIED: true wherever the clauses are
 abbrev pub Implied : List Clause → Clause → Type 0

@@ -1,7 +1,7 @@
 -- The opposite of a literal by its last bit: what the code's mask comes to.
-use Rattle.std.proofs.Common.{◌≡◌, ℕ, zero, suc, ◌+◌, ◌-◌, ◌*◌, ◌/◌, ◌%◌, ◌^◌, ◌<◌, ◌≤◌, Bool, true, false, not, ◌&&◌, eqb, ◌⊎◌, List, [], ◌∷◌, ◌++◌, length, get_or, drop, sym, refl, ap, ◌∙◌, subst, inl, inr, add-one, arith, drop-cons}
+use Rattle.std.proofs.Common.{◌≡◌, ℕ, ◌+◌, ◌*◌, ◌/◌, ◌%◌, ap, ◌∙◌, inl, inr, arith}
 use lib.Bits.{bit_xor, xor_block, xor_zero_r}
-use Rattle.formula.specs.Logic.{or, every, any, other}
+use Rattle.formula.specs.Logic.{other}
 use Rattle.formula.proofs.Soundness.{even_or_odd, other_even, other_odd}
 
 pub xor_one : (l : ℕ) → bit_xor l 1 ≡ other l

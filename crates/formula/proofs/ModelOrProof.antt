@@ -1,12 +1,11 @@
 -- Both values of each variable are tried: either the clauses can be, or there's a proof that they can't.
-use Rattle.std.proofs.Common.{◌≡◌, ℕ, zero, suc, ◌+◌, ◌-◌, ◌*◌, ◌/◌, ◌%◌, ◌<◌, ◌≤◌, Bool, true, false, not, ◌&&◌, eqb, ltb, leb, ◌⊎◌, List, [], ◌∷◌, ◌++◌, sym, refl, ap, ◌∙◌, subst, inl, inr, true≢false, arith}
-use mathlib.Core.Bool.{false≢true}
-use Rattle.std.proofs.lemmas.Bool.{not-true, not-false, not_from_true, not_from_false, and_parts, and_from, cases_eq}
-use Rattle.formula.specs.Logic.{pick, or, every, any, each, none_of, has, other, Clause, Truth, truth_of, true_in, clause_true, all_true, CanBe, CannotBe, by_propagation, added_up, Step, adds, deletes, holds, has_empty}
+use Rattle.std.proofs.Common.{◌≡◌, ℕ, zero, suc, ◌+◌, ◌*◌, ◌/◌, ◌<◌, ◌≤◌, Bool, true, false, ◌⊎◌, List, [], ◌∷◌, ◌++◌, sym, refl, ap, ◌∙◌, subst, inl, inr, arith}
+use Rattle.std.proofs.lemmas.Bool.{and_parts, and_from}
+use Rattle.formula.specs.Logic.{each, none_of, has, other, Clause, truth_of, true_in, clause_true, all_true, CanBe, CannotBe, by_propagation, added_up, Step, adds, holds, has_empty}
 use Rattle.formula.specs.Statements.{ProofThere, OneOrOther, ProofSound}
-use Rattle.formula.proofs.Rows.{clash, or_left, or_right, In, Sub, in_left, in_right, in_each, each_in, every_not, any_none, has_in, in_has, has_not}
-use Rattle.formula.proofs.Soundness.{other_other, other_even, other_odd, even_or_odd, true_even, true_odd, Settled, proof_sound}
-use Rattle.formula.proofs.Completeness.{Consistent, complete, forced_in, clash_in, follows_there}
+use Rattle.formula.proofs.Rows.{clash, or_right, In, Sub, in_each, every_not, any_none, has_in, in_has}
+use Rattle.formula.proofs.Soundness.{other_other, other_even, Settled, proof_sound}
+use Rattle.formula.proofs.Completeness.{complete, forced_in, clash_in, follows_there}
 
 -- the clauses after some were added one by one
 abbrev pub onto : List Clause → List Clause → List Clause

@@ -1,8 +1,8 @@
 -- Tests, and what stands in a list: `In`, and what `every`, `any`, `those`, `each` and `has` say of it.
-use Rattle.std.proofs.Common.{◌≡◌, ℕ, zero, suc, ◌+◌, ◌<◌, ◌≤◌, Bool, true, false, not, ◌&&◌, eqb, ◌⊎◌, List, [], ◌∷◌, ◌++◌, length, get_or, drop, sym, refl, ap, ◌∙◌, subst, inl, inr, true≢false, add-one, arith, drop-cons}
+use Rattle.std.proofs.Common.{◌≡◌, ℕ, zero, suc, ◌+◌, ◌<◌, ◌≤◌, Bool, true, false, ◌&&◌, eqb, ◌⊎◌, List, [], ◌∷◌, ◌++◌, length, get_or, drop, sym, refl, ap, ◌∙◌, subst, inl, inr, true≢false, add-one, arith, drop-cons}
 use mathlib.Core.Bool.{false≢true}
 use Rattle.std.proofs.lemmas.Bool.{eqb-true, eq-eqb, and_cases}
-use Rattle.formula.specs.Logic.{pick, or, every, any, those, each, has}
+use Rattle.formula.specs.Logic.{or, every, any, those, each, has}
 
 -- TESTS
 pub clash : {A : Type 0} (b : Bool) → b ≡ true → b ≡ false → A

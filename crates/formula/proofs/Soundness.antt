@@ -1,10 +1,10 @@
 -- What's true of a literal and its other; that propagation and proofs are sound; that order, tautologies and such change nothing.
-use Rattle.std.proofs.Common.{◌≡◌, ℕ, zero, suc, ◌+◌, ◌-◌, ◌*◌, ◌/◌, ◌%◌, ◌<◌, ◌≤◌, Bool, true, false, not, ◌&&◌, eqb, ltb, leb, ◌⊎◌, List, [], ◌∷◌, ◌++◌, length, take, sym, refl, ap, ◌∙◌, subst, inl, inr, true≢false, arith}
-use mathlib.Core.Bool.{false≢true, not-not}
-use Rattle.std.proofs.lemmas.Bool.{both_ways, not-true, not-false, not_from_true, not_from_false, eqb-true, eqb-false, eq-eqb, ne_eqb, and_parts, and_from, and_cases, cases_Bool}
-use Rattle.formula.specs.Logic.{pick, or, every, any, those, each, none_of, has, other, Truth, Clause, true_in, clause_true, all_true, CanBe, CannotBe, units, truth_of, false_by, open_of, conflict, all_equal, makes_unit, first_unit, refuted, by_propagation, how_large, Step, adds, deletes, without, holds, has_empty, same_row}
+use Rattle.std.proofs.Common.{◌≡◌, ℕ, zero, suc, ◌-◌, ◌/◌, ◌%◌, ◌<◌, Bool, true, false, not, eqb, ◌⊎◌, List, [], ◌∷◌, ◌++◌, take, sym, refl, ap, ◌∙◌, subst, inl, inr, arith}
+use mathlib.Core.Bool.{false≢true}
+use Rattle.std.proofs.lemmas.Bool.{not-true, not_from_false, eqb-true, eq-eqb, and_parts, and_from}
+use Rattle.formula.specs.Logic.{pick, every, any, each, none_of, has, other, Truth, Clause, true_in, clause_true, all_true, CanBe, CannotBe, units, false_by, open_of, conflict, all_equal, makes_unit, first_unit, refuted, by_propagation, how_large, Step, adds, deletes, without, holds, has_empty}
 use Rattle.formula.specs.Statements.{PropagationSound, ProofSound, OrderFree, Tautology}
-use Rattle.formula.proofs.Rows.{clash, or_left, or_right, or_cases, or_parts, so_false, so_true, In, Sub, in_left, in_right, in_cases, in_each, each_in, every_at, every_of, every_not, any_at, any_of, any_none, none_any, in_those, those_in, has_in, in_has, has_not, not_has}
+use Rattle.formula.proofs.Rows.{clash, or_cases, so_false, so_true, In, Sub, in_left, in_right, in_cases, in_each, each_in, every_at, every_of, any_at, any_of, any_none, in_those, those_in, has_in}
 
 -- A LITERAL AND ITS OTHER
 pub other_even : (l : ℕ) → l % 2 ≡ 0 → other l ≡ suc l

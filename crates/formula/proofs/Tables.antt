@@ -3,7 +3,7 @@
 use Rattle.std.proofs.Common.{◌≡◌, ℕ, suc, ◌+◌, ◌-◌, ◌<◌, ◌≤◌, min, List, [], ◌∷◌, length, get_or, take, drop, set, sym, refl, ap, ◌∙◌, inl, inr, add-one, arith, rules}
 use lib.Seq.{sets}
 use Rattle.std.proofs.lemmas.Bool.{cases_lt}
-use Rattle.std.proofs.lemmas.List.{same_lists, places, at_drop_more, set_past, length-set}
+use Rattle.std.proofs.lemmas.List.{same_lists, places, at_drop_more, set_past}
 
 pub part_cut : (start len p n : ℕ) (xs : List ℕ) → p ≡ min start (length xs) → n ≡ min len (length xs - p) → take (p + n - p) (drop p xs) ≡ take len (drop start xs)
 part_cut start len p n xs k l = same_lists _ _ (search (rules, places)) (λ i d h. grind (arith, places))

@@ -1,6 +1,6 @@
 -- What is promised of clauses, their truth and their proofs: seven statements, each a type.
 -- Each is the contract of a function of src/statements.rt, so the gate asks for its proof.
-use Rattle.std.specs.Prelude.{◌≡◌, ℕ, Bool, true, false, ◌⊎◌, List, [], ◌∷◌, ◌++◌}
+use Rattle.std.specs.Prelude.{◌≡◌, ℕ, true, ◌⊎◌, List, ◌∷◌, ◌++◌}
 use Rattle.formula.specs.Logic.{every, Clause, Truth, all_true, clause_true, CanBe, CannotBe, has, by_propagation, Step, holds, has_empty, other}
 
 -- A clause that follows by propagation follows; and what holds as a proof with the empty clause in it says that they can't be.
