@@ -125,7 +125,7 @@ fn propagate(
 }
 
 // Whether the clause follows by propagation, in a new round.
-pub(crate) fn follows(
+pub fn follows(
     input: &Input,
     active: &[bool],
     trail: &mut Trail,

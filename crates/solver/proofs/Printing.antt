@@ -4,7 +4,7 @@ use Rattle.std.proofs.Common.{◌≡◌, ℕ, suc, ◌+◌, ◌-◌, ◌<◌, �
 use Rattle.std.proofs.lemmas.Bool.{le-leb, ne_eqb}
 use Rattle.formula.specs.Logic.{added_up, how_large, Clause}
 use Rattle.formula.specs.Arena.{rows_of, clause_row, size}
-use Rattle.dimacs.specs.Text.{literal_text, clause_text, clauses_text, formula_text, vars_of}
+use Rattle.dimacs.specs.Text.{number_text, literal_text, clause_text, clauses_text, formula_text, vars_of}
 use Rattle.dimacs.specs.Pieces.{header_text, literal_piece, end_piece}
 use Rattle.dimacs.proofs.Writing.{length_header, length_literal, formula_pieces}
 use Rattle.solver.specs.House.{House, Command, print_it, refusal, After, shown, written}
@@ -37,7 +37,7 @@ module _ (ar : List ℕ) (long : length ar ≡ 81920) where
 -- with so many literals and clauses left
 abbrev with_left : State → (literals clauses : ℕ) → State
 with_left s l n =
-    with_scalars s (0 ∷ 0 ∷ 0 ∷ 0 ∷ 0 ∷ 0 ∷ 0 ∷ 0 ∷ l ∷ n ∷ scalar s 10 ∷ scalar s 11 ∷ scalar s 12 ∷ 0 ∷ drop 14 s.scalars)
+    with_scalars s (0 ∷ 0 ∷ 0 ∷ 0 ∷ 0 ∷ 0 ∷ 0 ∷ 0 ∷ l ∷ n ∷ scalar s 10 ∷ scalar s 11 ∷ scalar s 12 ∷ drop 13 s.scalars)
 
 left_long : (s : State) (l n : ℕ) → Sized s → length (with_left s l n).scalars ≡ 256
 left_long s l n z = let a = z.scalars_long in simp length-drop (omega arith)

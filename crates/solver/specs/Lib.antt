@@ -1,4 +1,5 @@
 pub mod House
+pub mod Known
 pub mod Promise
 pub mod PrintBack
 pub mod State

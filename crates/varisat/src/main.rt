@@ -9,7 +9,6 @@ mod literal;
 mod machine;
 mod options;
 mod printer;
-mod proof;
 mod refusal;
 mod request;
 mod session;

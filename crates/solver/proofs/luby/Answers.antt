@@ -1,16 +1,13 @@
-use Rattle.std.proofs.Common.{sym, refl, ap, ◌∙◌}
-use Rattle.std.proofs.lemmas.Bool.{leb-true}
+use Rattle.std.proofs.Common.{refl, ap}
 use Rattle.solver.specs.declared.Reply.TheVariants.{Term}
+use Rattle.std.proofs.lemmas.Bool.{le-leb, lt-leb}
 use Rattle.solver.specs.Entry.{TermSays}
 use Rattle.solver.proofs.luby.Goals as goal
 
-pub returns-then-not-is-told : goal.returns-then-not-is-told
+pub returns-then-n-gt-LAST-TERM : goal.returns-then-n-gt-LAST-TERM
 unfolding TermSays
-returns-then-not-is-told c = rw (sym c.is-told.ensures ∙ c.if-not-is-told.true) refl
-
-pub term-of-requires : goal.term-of-requires
-term-of-requires c = leb-true _ _ (sym c.is-told.ensures ∙ c.if-not-is-told.false)
+returns-then-n-gt-LAST-TERM c = rw (lt-leb c.args.n 1048576 c.if-n-gt-LAST-TERM.true) refl
 
 pub returns : goal.returns
 unfolding TermSays
-returns c = rw (sym c.is-told.ensures ∙ c.if-not-is-told.false) (ap Term c.term-of.ensures)
+returns c = rw (le-leb c.args.n 1048576 c.if-n-gt-LAST-TERM.false) (ap Term c.term-of.ensures)

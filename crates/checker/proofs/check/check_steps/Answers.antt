@@ -1,6 +1,9 @@
-use Rattle.std.proofs.Common.{arith}
+use Rattle.std.proofs.Common.{refl, arith}
 use Rattle.checker.proofs.Stepping.{going_end}
 use Rattle.checker.proofs.check.check_steps.Goals as goal
 
-pub final-verdict-requires : goal.final-verdict-requires
-final-verdict-requires c = going_end c.args.input.now _ _ c.loop-place.place c.loop-place.invariant (omega (arith, c.args.input.now.steps.ok.0))
+pub returns-then-has-empty-clause : goal.returns-then-has-empty-clause
+returns-then-has-empty-clause c = (
+  going_end c.args.input.now _ _ c.loop-place.place c.loop-place.invariant (omega (arith, c.args.input.now.steps.ok.0)),
+  c.if-has-empty-clause.ensures refl,
+)

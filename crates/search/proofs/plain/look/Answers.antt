@@ -10,6 +10,10 @@ pub returns-else-depth-eq0 : goal.returns-else-depth-eq0
 unfolding look
 returns-else-depth-eq0 c = grind arith
 
+pub returns-then-some-false : goal.returns-then-some-false
+unfolding look
+returns-then-some-false c = grind arith
+
 pub returns : goal.returns
 unfolding look
 returns c = grind arith
