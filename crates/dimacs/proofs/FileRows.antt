@@ -1,6 +1,6 @@
 -- Each file read by computing.
 -- The last lemma is the contract of `file_rows_hold`.
-use Rattle.std.proofs.Common.{◌≡◌, refl}
+use Rattle.std.proofs.Common.{refl}
 use Rattle.formula.specs.Logic.{any, none_of}
 use Rattle.dimacs.specs.Text.{words_from, number_of, word_number, same_bytes, with_numbers, with_words, header_read, literal_done, then_out, skipped, digit_read, byte_read, next_byte, bytes_read, row_vars, vars_of, with_header, ended, then_ended, at_end, file_read}
 use Rattle.dimacs.specs.FileRows.{BlankRows, CommentRows, HeaderRows, NumberRows, EndRows, FileRows}

@@ -5,7 +5,7 @@ use mathlib.Core.Bool.{false≢true}
 use Rattle.std.proofs.lemmas.Bool.{cases_Bool, ltb-false, and_parts, eqb-true}
 use Rattle.std.proofs.lemmas.List.{take_more, length_push, length-drop, get_or-drop}
 use Rattle.formula.specs.Logic.{pick, or, none_of}
-use Rattle.dimacs.specs.Text.{Reader, Read, Header, reader, goes_on, wrong, byte_read, counted, skipped, digit_read, literal_done, blank_read, then_out, out_of_line, header_read, is_digit, is_end}
+use Rattle.dimacs.specs.Text.{Reader, Read, Header, goes_on, wrong, byte_read, counted, skipped, digit_read, literal_done, blank_read, then_out, header_read, is_digit, is_end}
 use Rattle.dimacs.specs.Scan.{by_read, laid}
 use Rattle.dimacs.specs.Heading.{heading_read}
 use Rattle.dimacs.specs.declared.read.Fault.{Fault}

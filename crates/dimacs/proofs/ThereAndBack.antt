@@ -1,12 +1,11 @@
 -- A formula that is written is read as what it was: byte by byte, number by number, line by line.
 -- The last lemma is the contract of `there_and_back`.
-use Rattle.std.proofs.Common.{◌≡◌, ℕ, zero, suc, ◌+◌, ◌-◌, ◌*◌, ◌/◌, ◌%◌, ◌^◌, ◌<◌, ◌≤◌, Bool, true, false, not, ◌&&◌, eqb, ltb, leb, ◌⊎◌, List, [], ◌∷◌, ◌++◌, length, take, drop, sym, refl, ap, ◌∙◌, subst, inl, inr, true≢false, append_assoc, append-nil, arith}
-use mathlib.Core.Bool.{false≢true}
-use Rattle.formula.specs.Logic.{pick, or, every, any, none_of, Clause}
+use Rattle.std.proofs.Common.{◌≡◌, ℕ, zero, suc, ◌+◌, ◌-◌, ◌*◌, ◌/◌, ◌%◌, ◌^◌, ◌<◌, ◌≤◌, Bool, true, false, ltb, ◌⊎◌, List, [], ◌∷◌, ◌++◌, length, sym, refl, ap, ◌∙◌, inl, inr, true≢false, append_assoc, append-nil, arith}
+use Rattle.formula.specs.Logic.{pick, every, none_of, Clause}
 use Rattle.std.proofs.lemmas.Bool.{cases_Bool, ltb-true, ltb-false, lt-ltb, le-ltb, eq-eqb, and_parts}
-use Rattle.formula.proofs.Rows.{In, in_cases, every_at}
+use Rattle.formula.proofs.Rows.{In, in_cases}
 use Rattle.formula.proofs.Soundness.{even_or_odd}
-use Rattle.dimacs.specs.Text.{Reader, Header, Read, goes_on, wrong, reader, first_reader, bytes_read, next_byte, byte_read, digit_read, counted, is_digit, is_end, skipped, digits_rev, turned, number_text, literal_text, clause_text, clauses_text, blank_read, literal_done, number_of, word_number, words_from, is_blank, row_vars, vars_of, larger, formula_text, file_read, at_end, ended, with_header, header_read, with_words, with_numbers, same_bytes, then_out}
+use Rattle.dimacs.specs.Text.{Reader, Header, Read, goes_on, reader, first_reader, bytes_read, next_byte, byte_read, digit_read, is_end, skipped, digits_rev, turned, number_text, literal_text, clause_text, clauses_text, literal_done, number_of, word_number, words_from, is_blank, row_vars, vars_of, formula_text, file_read, at_end, ended, with_header, header_read, with_words, with_numbers, same_bytes, then_out}
 use Rattle.dimacs.specs.Statements.{lits_fit}
 use Rattle.dimacs.specs.Statements.{ThereAndBack}
 

@@ -5,8 +5,8 @@ use lib.Seq.{sets, sets-eq}
 use Rattle.std.proofs.lemmas.List.{length-append, set_comm}
 use Rattle.std.proofs.lemmas.Bool.{lt-ltb, le-ltb}
 use Rattle.formula.specs.Logic.{pick, Clause}
-use Rattle.dimacs.specs.Text.{digits_rev, turned, number_text, literal_text, clause_text, clauses_text, vars_of, formula_text}
-use Rattle.dimacs.specs.Pieces.{header_text, literal_piece, end_piece, Puts}
+use Rattle.dimacs.specs.Text.{digits_rev, turned, number_text, literal_text, clauses_text, vars_of, formula_text}
+use Rattle.dimacs.specs.Pieces.{header_text, literal_piece, Puts}
 use Rattle.dimacs.specs.Written.{Written}
 
 -- DIGITS

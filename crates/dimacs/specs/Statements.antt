@@ -1,6 +1,6 @@
 -- What is promised of the text form: a formula that is written is read as what it was.
 -- The statement is the contract of `there_and_back` in src/lib.rt.
-use Rattle.std.specs.Prelude.{◌≡◌, ℕ, ◌<◌, Bool, true, false, List, length, nat_lt}
+use Rattle.std.specs.Prelude.{◌≡◌, ℕ, ◌<◌, Bool, true, List, length, nat_lt}
 use Rattle.formula.specs.Logic.{every, Clause}
 use Rattle.dimacs.specs.Text.{Reader, goes_on, file_read, formula_text}
 

@@ -1,5 +1,7 @@
 // The text form of formulas and proofs, read and written byte by byte.
 // It promises that what is written is read back as what it was.
+#![tactic(auto)]
+
 ghost use Rattle.dimacs.specs.Statements.{ThereAndBack};
 
 mod header;

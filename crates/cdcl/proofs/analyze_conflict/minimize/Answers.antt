@@ -11,12 +11,12 @@ loop-i-preserved c =
     let all : ℕ = learned_len c.args.work.now in
     let n : ℕ = all - (c.loop-i.i + 1) in
     let q = c.loop-i-test.true in
-    let e = c.learned-len-i-end.ensures in
+    let e = c.learned_len-i-end.ensures in
     let low = c.loop-i.invariant.1 in
-    let count = c.keep-needed-len.ensures.count in
+    let count = c.keep_needed-len.ensures.count in
     let few = one_more_at_most (is_spare c.args.level w (learned_lit w c.loop-i.i)) j in (
-      ap (λ (x : ℕ). minimized n (c.loop-i.i + 1) x c.args.level c.keep-needed-len.new.work) count
-          ∙ ap (λ (x : List ℕ). minimized n (c.loop-i.i + 1) (pick (is_spare c.args.level w (learned_lit w c.loop-i.i)) j (j + 1)) c.args.level x) c.keep-needed-len.ensures.after
+      ap (λ (x : ℕ). minimized n (c.loop-i.i + 1) x c.args.level c.keep_needed-len.new.work) count
+          ∙ ap (λ (x : List ℕ). minimized n (c.loop-i.i + 1) (pick (is_spare c.args.level w (learned_lit w c.loop-i.i)) j (j + 1)) c.args.level x) c.keep_needed-len.ensures.after
           ∙ sym (minimized_more c.loop-i.i j c.args.level w (all - c.loop-i.i) n (omega arith)) ∙ c.loop-i.invariant.0,
       omega arith,
     )
@@ -24,5 +24,5 @@ loop-i-preserved c =
 pub returns : goal.returns
 returns c =
     let q = c.loop-i-test.false in
-    let e = c.learned-len-i-end.ensures in
+    let e = c.learned_len-i-end.ensures in
     c.write.ensures ∙ sym (minimized_end c.loop-i.i c.loop-i.len c.args.level c.loop-i.work (learned_len c.args.work.now - c.loop-i.i) (omega arith)) ∙ c.loop-i.invariant.0

@@ -10,16 +10,16 @@ loop-i-preserved c =
     let w = c.args.work.now in
     let n : ℕ = learned_len w - 1 - (c.loop-i.i + 1) in
     let q = c.loop-i-test.true in
-    let e = c.saturating-sub-i-end.ensures in
+    let e = c.saturating_sub-i-end.ensures in
     let f = c.learned_len.ensures in
     let on : 1 + (c.loop-i.i + 1) ≡ 1 + c.loop-i.i + 1 = omega arith in
-    ap (peak n (1 + (c.loop-i.i + 1)) w) c.higher-place-best.ensures ∙ ap (λ (x : ℕ). peak n x w (pick (ltb (lit_level w (learned_lit w c.loop-i.best)) (lit_level w (learned_lit w (1 + c.loop-i.i)))) (1 + c.loop-i.i) c.loop-i.best)) on
+    ap (peak n (1 + (c.loop-i.i + 1)) w) c.higher_place-best.ensures ∙ ap (λ (x : ℕ). peak n x w (pick (ltb (lit_level w (learned_lit w c.loop-i.best)) (lit_level w (learned_lit w (1 + c.loop-i.i)))) (1 + c.loop-i.i) c.loop-i.best)) on
     ∙ sym (peak_more (1 + c.loop-i.i) w c.loop-i.best (learned_len w - 1 - c.loop-i.i) n (omega arith)) ∙ c.loop-i.invariant
 
 pub returns : goal.returns
 returns c =
     let w = c.args.work.now in
     let q = c.loop-i-test.false in
-    let e = c.saturating-sub-i-end.ensures in
+    let e = c.saturating_sub-i-end.ensures in
     let f = c.learned_len.ensures in
     sym (peak_end (1 + c.loop-i.i) w c.loop-i.best (learned_len w - 1 - c.loop-i.i) (omega arith)) ∙ c.loop-i.invariant

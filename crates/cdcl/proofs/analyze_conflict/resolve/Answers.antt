@@ -2,14 +2,14 @@ use Rattle.std.proofs.Common.{arith}
 use Rattle.cdcl.specs.Analysis.{resolve}
 use Rattle.cdcl.proofs.analyze_conflict.resolve.Goals as goal
 
-pub returns-then-not-is-marked : goal.returns-then-not-is-marked
+pub returns-then-not-is_marked : goal.returns-then-not-is_marked
 unfolding resolve
-returns-then-not-is-marked c = grind arith
+returns-then-not-is_marked c = grind arith
 
-pub returns-then-by-reason : goal.returns-then-by-reason
+pub returns-then-by_reason : goal.returns-then-by_reason
 unfolding resolve
-returns-then-by-reason c = grind arith
+returns-then-by_reason c = grind arith
 
-pub returns-else-by-reason : goal.returns-else-by-reason
+pub returns-else-by_reason : goal.returns-else-by_reason
 unfolding resolve
-returns-else-by-reason c = grind arith
+returns-else-by_reason c = grind arith

@@ -20,14 +20,14 @@ loop-i-preserved c =
     let k : ℕ = c.args.start + i in
     let n : ℕ = all - (i + 1) in
     let q = c.loop-i-test.true in
-    let e = c.learned-len-i-end.ensures in
+    let e = c.learned_len-i-end.ensures in
     let on : c.args.start + (i + 1) ≡ k + 1 = omega arith in
-    ap (λ (x : List ℕ). copied n (i + 1) (c.args.start + (i + 1)) x) (c.write.ensures ∙ ap (put lits w k) c.learned-lit-lit.ensures)
+    ap (λ (x : List ℕ). copied n (i + 1) (c.args.start + (i + 1)) x) (c.write.ensures ∙ ap (put lits w k) c.learned_lit-lit.ensures)
     ∙ ap (λ (x : ℕ). copied n (i + 1) x (put lits w k (learned_lit w i))) on
     ∙ sym (copied_more i k w (all - i) n (omega arith)) ∙ c.loop-i.invariant
 
 pub returns : goal.returns
 returns c =
     let q = c.loop-i-test.false in
-    let e = c.learned-len-i-end.ensures in
+    let e = c.learned_len-i-end.ensures in
     sym (copied_end c.loop-i.i (c.args.start + c.loop-i.i) c.loop-i.work (learned_len c.args.work.now - c.loop-i.i) (omega arith)) ∙ c.loop-i.invariant

@@ -10,12 +10,12 @@ unfolding stored
 returns c =
     let w = c.args.work.now in
     let n : ℕ = next_clause w in
-    let is-n = c.next-clause-clause.ensures.result in
-    let is-start = c.start-of-start.ensures ∙ ap (start_of w) is-n in
-    let copy = c.copy-learned.ensures ∙ ap (λ (k : ℕ). copied (learned_len w) 0 k w) is-start in
+    let is-n = c.next_clause-clause.ensures.result in
+    let is-start = c.start_of-start.ensures ∙ ap (start_of w) is-n in
+    let copy = c.copy_learned.ensures ∙ ap (λ (k : ℕ). copied (learned_len w) 0 k w) is-start in
     let end = ap (λ (k : ℕ). k + c.learned_len.result) is-start ∙ ap (λ (k : ℕ). start_of w n + k) c.learned_len.ensures in
     c.write-2.ensures
-    ∙ ap (λ (x : List ℕ). with_num_clauses x c.next-clause-clause.result)
-    (c.write.ensures ∙ ap (λ (x : List ℕ). put starts x (c.next-clause-clause.result + 1) (c.start-of-start.result + c.learned_len.result)) copy
-    ∙ ap (λ (k : ℕ). put starts (copied (learned_len w) 0 (start_of w n) w) (c.next-clause-clause.result + 1) k) end)
+    ∙ ap (λ (x : List ℕ). with_num_clauses x c.next_clause-clause.result)
+    (c.write.ensures ∙ ap (λ (x : List ℕ). put starts x (c.next_clause-clause.result + 1) (c.start_of-start.result + c.learned_len.result)) copy
+    ∙ ap (λ (k : ℕ). put starts (copied (learned_len w) 0 (start_of w n) w) (c.next_clause-clause.result + 1) k) end)
     ∙ ap (λ (k : ℕ). with_num_clauses (put starts (copied (learned_len w) 0 (start_of w n) w) (k + 1) (start_of w n + learned_len w)) k) is-n

@@ -7,6 +7,6 @@ use Rattle.cdcl.proofs.learn.learn_from.Goals as goal
 pub returns : goal.returns
 unfolding learn_from
 returns c =
-    c.grow-increment.ensures
-    ∙ ap grown (c.take-lesson.ensures ∙ ap taken (c.backjump.ensures ∙ ap (backjump c.analyze-conflict.new.work) c.jump-level-level.ensures
-    ∙ ap (λ (x : List ℕ). backjump x (jump_level x)) c.analyze-conflict.ensures))
+    c.grow_increment.ensures
+    ∙ ap grown (c.take_lesson.ensures ∙ ap taken (c.backjump.ensures ∙ ap (backjump c.analyze_conflict.new.work) c.jump_level-level.ensures
+    ∙ ap (λ (x : List ℕ). backjump x (jump_level x)) c.analyze_conflict.ensures))

@@ -9,7 +9,7 @@ pub returns-then-not-repeats : goal.returns-then-not-repeats
 returns-then-not-repeats c =
     let w = c.loop-lit.work in
     let e = sym (collect_stops w c.args.clause.now c.loop-lit.lit-index c.loop-lit-test.true
-    (ap (is_marked w) (sym c.variable.ensures) ∙ sym c.is_marked.ensures ∙ c.if-not-is-marked.false) (sym c.repeats.ensures ∙ c.if-not-repeats.true)) ∙ c.loop-lit.invariant in
+    (ap (is_marked w) (sym c.variable.ensures) ∙ sym c.is_marked.ensures ∙ c.if-not-is_marked.false) (sym c.repeats.ensures ∙ c.if-not-repeats.true)) ∙ c.loop-lit.invariant in
     record { after = ap (λ (x : Collected). x.after) e; tautology = ap (λ (x : Collected). x.tautology) e }
 
 pub loop-lit-preserved : goal.loop-lit-preserved
@@ -17,11 +17,11 @@ loop-lit-preserved c =
     let w = c.loop-lit.work in
     let ls = c.args.clause.now in
     let i : ℕ = c.loop-lit.lit-index in
-    elim c.if-not-is-marked.branch [
-      | then-not-is-marked t ↦ ap (λ (x : List ℕ). collect x (drop (i + 1) ls)) (t.work-is ∙ t.add-literal.ensures)
-          ∙ sym (collect_new w ls i c.loop-lit-test.true (ap (is_marked w) (sym c.variable.ensures) ∙ sym c.is_marked.ensures ∙ t.if-not-is-marked.true)) ∙ c.loop-lit.invariant
+    elim c.if-not-is_marked.branch [
+      | then-not-is-marked t ↦ ap (λ (x : List ℕ). collect x (drop (i + 1) ls)) (t.work-is ∙ t.add_literal.ensures)
+          ∙ sym (collect_new w ls i c.loop-lit-test.true (ap (is_marked w) (sym c.variable.ensures) ∙ sym c.is_marked.ensures ∙ t.if-not-is_marked.true)) ∙ c.loop-lit.invariant
       | else-not-is-marked+else-not-repeats t ↦ ap (λ (x : List ℕ). collect x (drop (i + 1) ls)) t.work-is
-          ∙ sym (collect_again w ls i c.loop-lit-test.true (ap (is_marked w) (sym c.variable.ensures) ∙ sym c.is_marked.ensures ∙ t.if-not-is-marked.false)
+          ∙ sym (collect_again w ls i c.loop-lit-test.true (ap (is_marked w) (sym c.variable.ensures) ∙ sym c.is_marked.ensures ∙ t.if-not-is_marked.false)
           (sym t.repeats.ensures ∙ t.if-not-repeats.false)) ∙ c.loop-lit.invariant
     ]
 

@@ -19,4 +19,4 @@ returns c =
     let is = ap (λ (x : List ℕ). collect x cl) c.start.ensures in
     let e = load_clause c.args.work.now cl (sym (c.collect.ensures.tautology ∙ ap (λ (x : Collected). x.tautology) is) ∙ c.if-collect.false) in
     let t = ap taken_in (c.arrange.ensures ∙ ap arranged (c.collect.ensures.after ∙ ap (λ (x : Collected). x.after) is)) ∙ sym e in
-    record { after = c.take-in.ensures.after ∙ ap (λ (x : Taken). x.after) t; loaded = c.take-in.ensures.loaded ∙ ap (λ (x : Taken). x.loaded) t }
+    record { after = c.take_in.ensures.after ∙ ap (λ (x : Taken). x.after) t; loaded = c.take_in.ensures.loaded ∙ ap (λ (x : Taken). x.loaded) t }

@@ -10,12 +10,12 @@ loop-i-init c =
     let n : c.args.count - 0 ≡ c.args.count = omega arith in
     ap (λ (x : ℕ). open_from x (c.args.place + 0) c.args.otherwise c.args.work.now) n ∙ ap (λ (x : ℕ). open_from c.args.count x c.args.otherwise c.args.work.now) k
 
-pub returns-then-not-is-false : goal.returns-then-not-is-false
-returns-then-not-is-false c =
+pub returns-then-not-is_false : goal.returns-then-not-is_false
+returns-then-not-is_false c =
     let w = c.args.work.now in
     let q = c.loop-i-test.true in
     sym (open_here (c.args.place + c.loop-i.i) c.args.otherwise w (c.args.count - c.loop-i.i) (omega arith)
-    (ap (is_false w) (sym c.learned_lit.ensures) ∙ sym c.is-false.ensures ∙ c.if-not-is-false.true)) ∙ c.loop-i.invariant
+    (ap (is_false w) (sym c.learned_lit.ensures) ∙ sym c.is_false.ensures ∙ c.if-not-is_false.true)) ∙ c.loop-i.invariant
 
 pub loop-i-preserved : goal.loop-i-preserved
 loop-i-preserved c =
@@ -26,7 +26,7 @@ loop-i-preserved c =
     let on : c.args.place + (c.loop-i.i + 1) ≡ k + 1 = omega arith in
     ap (λ (x : ℕ). open_from n x c.args.otherwise w) on
     ∙ sym (open_more k c.args.otherwise w (c.args.count - c.loop-i.i) n (omega arith)
-    (ap (is_false w) (sym c.learned_lit.ensures) ∙ sym c.is-false.ensures ∙ c.if-not-is-false.false)) ∙ c.loop-i.invariant
+    (ap (is_false w) (sym c.learned_lit.ensures) ∙ sym c.is_false.ensures ∙ c.if-not-is_false.false)) ∙ c.loop-i.invariant
 
 pub returns : goal.returns
 returns c =

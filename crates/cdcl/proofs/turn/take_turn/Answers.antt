@@ -22,4 +22,4 @@ returns c =
     let clash = ap (λ (s : Step). s.conflict) c.propagate-step.ensures.step in
     let is = ap (on_quiet as₁ c.min.result) c.propagate-step.ensures.after ∙ ap (λ (n : ℕ). on_quiet as₁ n p.after) c.min.ensures
     ∙ sym (turn_quiet as₁ c.args.num_vars w p refl (sym clash ∙ c.if-step-ne0.false)) in
-    record { after = c.on-quiet.ensures.after ∙ ap (λ (t : Turned). t.after) is; turn = c.on-quiet.ensures.turn ∙ ap (λ (t : Turned). t.turn) is }
+    record { after = c.on_quiet.ensures.after ∙ ap (λ (t : Turned). t.after) is; turn = c.on_quiet.ensures.turn ∙ ap (λ (t : Turned). t.turn) is }

@@ -6,5 +6,5 @@ use Rattle.dimacs.proofs.header.read_header.Goals as goal
 
 pub returns : goal.returns
 returns c =
-    let k : begins_header c.args.row.now ≡ true = sym c.if-not-begins-header.ensures in
-    c.read-words.ensures ∙ (ap (λ (x : List ℕ). words_read x c.args.line) (take_rest c.args.row.now 2) ∙ when_headed c.args.row.now c.args.line k)
+    let k : begins_header c.args.row.now ≡ true = sym c.if-not-begins_header.ensures in
+    c.read_words.ensures ∙ (ap (λ (x : List ℕ). words_read x c.args.line) (take_rest c.args.row.now 2) ∙ when_headed c.args.row.now c.args.line k)

@@ -3,8 +3,8 @@ use Rattle.std.proofs.lemmas.List.{take_rest}
 use Rattle.dimacs.proofs.Headings.{no_word, number_word, plus_word, plus_alone}
 use Rattle.dimacs.proofs.header.word_number.Goals as goal
 
-pub returns-then-is-empty : goal.returns-then-is-empty
-returns-then-is-empty c = let k = no_word c.args.word.now in grind arith
+pub returns-then-is_empty : goal.returns-then-is_empty
+returns-then-is_empty c = let k = no_word c.args.word.now in grind arith
 
 pub returns-then-word-ne-PLUS : goal.returns-then-word-ne-PLUS
 returns-then-word-ne-PLUS c = let k = number_word c.args.word.now in grind arith

@@ -1,17 +1,17 @@
-use Rattle.std.proofs.Common.{ℕ, ◌/◌, List, set, sym, refl, ap, ◌∙◌, arith}
+use Rattle.std.proofs.Common.{◌/◌, set, refl, ap, ◌∙◌, arith}
 use lib.Seq.{sets}
 use Rattle.dimacs.specs.Text.{number_text}
 use Rattle.dimacs.proofs.Writing.{number_some, count_more, digits_last, digits_first}
 use Rattle.dimacs.proofs.write.fill_digits.Goals as goal
 
-pub overflow-sub-place : goal.overflow-sub-place
-overflow-sub-place c = let h = number_some c.args.n in omega arith
+pub overflow_sub-place : goal.overflow_sub-place
+overflow_sub-place c = let h = number_some c.args.n in omega arith
 
 pub loop-left-init : goal.loop-left-init
 loop-left-init c = let h = number_some c.args.n in (omega arith, omega arith, omega arith, refl)
 
-pub overflow-sub-place-in-loop-left : goal.overflow-sub-place-in-loop-left
-overflow-sub-place-in-loop-left c =
+pub overflow_sub-place-in-loop-left : goal.overflow_sub-place-in-loop-left
+overflow_sub-place-in-loop-left c =
     let h = count_more c.loop-left.left c.loop-left-test.true (omega arith) in
     let k = number_some (c.loop-left.left / 10) in
     omega arith

@@ -6,4 +6,4 @@ use Rattle.dimacs.proofs.write.put_end.Goals as goal
 pub returns : goal.returns
 unfolding end_piece
 returns c =
-    puts_all _ _ _ _ (written_then _ _ _ _ _ _ _ _ c.put-zero-newline-at.ensures c.put-newline.ensures) (sym c.has-room.ensures ∙ c.if-not-has-room.false) (omega arith)
+    puts_all _ _ _ _ (written_then _ _ _ _ _ _ _ _ c.put_zero-newline_at.ensures c.put_newline.ensures) (sym c.has_room.ensures ∙ c.if-not-has_room.false) (omega arith)

@@ -7,6 +7,6 @@ pub returns : goal.returns
 unfolding header_text
 returns c =
     let few = length_header c.args.vars c.args.clauses in
-    let front = written_then _ _ _ _ _ _ _ _ c.put-format-vars-at.ensures c.put-number-blank-at.ensures.text in
-    let rest = written_then _ _ _ _ _ _ _ _ c.put-blank-clauses-at.ensures c.put-number-end.ensures.text in
-    puts_all _ _ _ _ (written_then _ _ _ _ _ _ _ _ (written_then _ _ _ _ _ _ _ _ front rest) c.put-newline.ensures) (sym c.has-room.ensures ∙ c.if-not-has-room.false) (omega arith)
+    let front = written_then _ _ _ _ _ _ _ _ c.put_format-vars_at.ensures c.put_number-blank_at.ensures.text in
+    let rest = written_then _ _ _ _ _ _ _ _ c.put_blank-clauses_at.ensures c.put_number-end.ensures.text in
+    puts_all _ _ _ _ (written_then _ _ _ _ _ _ _ _ (written_then _ _ _ _ _ _ _ _ front rest) c.put_newline.ensures) (sym c.has_room.ensures ∙ c.if-not-has_room.false) (omega arith)

@@ -7,5 +7,5 @@ pub returns : goal.returns
 unfolding literal_piece
 returns c =
     let few = length_literal c.args.lit in
-    let front = literal_written c.args.lit _ _ _ _ _ _ _ c.is-negated.ensures c.variable-number.ensures c.put-sign-number-at.ensures c.put-number-end.ensures.text in
-    puts_all _ _ _ _ (written_then _ _ _ _ _ _ _ _ front c.put-blank.ensures) (sym c.has-room.ensures ∙ c.if-not-has-room.false) (omega arith)
+    let front = literal_written c.args.lit _ _ _ _ _ _ _ c.is_negated.ensures c.variable_number.ensures c.put_sign-number_at.ensures c.put_number-end.ensures.text in
+    puts_all _ _ _ _ (written_then _ _ _ _ _ _ _ _ front c.put_blank.ensures) (sym c.has_room.ensures ∙ c.if-not-has_room.false) (omega arith)

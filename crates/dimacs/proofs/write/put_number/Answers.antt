@@ -2,16 +2,16 @@ use Rattle.std.proofs.Common.{arith, rules}
 use Rattle.dimacs.proofs.Writing.{number_few}
 use Rattle.dimacs.proofs.write.put_number.Goals as goal
 
-pub overflow-add-end : goal.overflow-add-end
-overflow-add-end c = let h = number_few c.args.n in search rules
+pub overflow_add-end : goal.overflow_add-end
+overflow_add-end c = let h = number_few c.args.n in search rules
 
-pub fill-digits-requires : goal.fill-digits-requires
-fill-digits-requires c = let h = number_few c.args.n in search rules
+pub fill_digits-requires : goal.fill_digits-requires
+fill_digits-requires c = let h = number_few c.args.n in search rules
 
 pub returns : goal.returns
 returns c =
     let h = number_few c.args.n in
     record {
-      text = c.fill-digits.ensures;
+      text = c.fill_digits.ensures;
       near = omega arith;
     }

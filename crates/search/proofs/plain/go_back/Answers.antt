@@ -2,10 +2,10 @@ use Rattle.std.proofs.Common.{arith}
 use Rattle.search.specs.Plain.{act}
 use Rattle.search.proofs.plain.go_back.Goals as goal
 
-pub returns-then-has-value-false : goal.returns-then-has-value-false
+pub returns-then-has_value_false : goal.returns-then-has_value_false
 unfolding act
-returns-then-has-value-false c = grind arith
+returns-then-has_value_false c = grind arith
 
-pub returns-else-has-value-false : goal.returns-else-has-value-false
+pub returns-else-has_value_false : goal.returns-else-has_value_false
 unfolding act
-returns-else-has-value-false c = grind arith
+returns-else-has_value_false c = grind arith

@@ -10,9 +10,9 @@ pub returns-else-depth-eq0 : goal.returns-else-depth-eq0
 unfolding look
 returns-else-depth-eq0 c = grind arith
 
-pub returns-then-some-false : goal.returns-then-some-false
+pub returns-then-some_false : goal.returns-then-some_false
 unfolding look
-returns-then-some-false c = grind arith
+returns-then-some_false c = grind arith
 
 pub returns : goal.returns
 unfolding look
