@@ -103,7 +103,7 @@ impl Trail {
     // All literals of the clause are taken to be false; true if one of them was true by then.
     pub fn assume_false(&mut self, clause: &[u64]) -> Result<bool, AllocError>
         requires low { Low self.old }
-        requires by_index { (l : ℕ) → is_true self.old l ≡ false }
+        requires none_true { (l : ℕ) → is_true self.old l ≡ false }
         ensures { IfOk result (Assumed clause.now self.old self.new) }
     {
         for lit in clause {

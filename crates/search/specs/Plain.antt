@@ -1,6 +1,6 @@
 -- Plain search: variables in order, false first, back one level at a time. A turn is a look at the formula under the values
 -- so far, and then one small change of the table `work`. Definitions only, total on any table.
-use Rattle.std.specs.Prelude.{ℕ, zero, suc, ◌+◌, ◌-◌, ◌*◌, ◌/◌, ◌%◌, min, Bool, true, false, not, ◌&&◌, List, [], ◌∷◌, ◌==◌, nat_lt, slice_index, slice_set}
+use Rattle.std.specs.Prelude.{ℕ, zero, suc, ◌+◌, ◌-◌, ◌*◌, ◌/◌, ◌%◌, min, Bool, not, ◌&&◌, List, [], ◌∷◌, ◌==◌, nat_lt, slice_index, slice_set}
 use Rattle.formula.specs.Logic.{pick, every, any, Clause}
 use Rattle.search.specs.declared.plain.Finding.{Finding}
 use Rattle.search.specs.declared.plain.Finding.TheVariants.{Exhausted, Back, Conflict, Failed, Open, Full}

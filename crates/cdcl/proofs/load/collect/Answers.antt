@@ -2,7 +2,7 @@ use Rattle.std.proofs.Common.{ℕ, ◌+◌, List, drop, sym, ap, ◌∙◌}
 use Rattle.cdcl.specs.Analysis.{is_marked}
 use Rattle.cdcl.specs.Loading.{Collected, collect}
 use Rattle.cdcl.proofs.Loads.{collect_new, collect_again, collect_stops, collect_end}
-use Rattle.cdcl.proofs.load.collect.Goals.{then-not-is-marked, else-not-is-marked+else-not-repeats}
+use Rattle.cdcl.proofs.load.collect.Goals.{then-not-is_marked, else-not-is_marked+else-not-repeats}
 use Rattle.cdcl.proofs.load.collect.Goals as goal
 
 pub returns-then-not-repeats : goal.returns-then-not-repeats
@@ -18,9 +18,9 @@ loop-lit-preserved c =
     let ls = c.args.clause.now in
     let i : ℕ = c.loop-lit.lit-index in
     elim c.if-not-is_marked.branch [
-      | then-not-is-marked t ↦ ap (λ (x : List ℕ). collect x (drop (i + 1) ls)) (t.work-is ∙ t.add_literal.ensures)
+      | then-not-is_marked t ↦ ap (λ (x : List ℕ). collect x (drop (i + 1) ls)) (t.work-is ∙ t.add_literal.ensures)
           ∙ sym (collect_new w ls i c.loop-lit-test.true (ap (is_marked w) (sym c.variable.ensures) ∙ sym c.is_marked.ensures ∙ t.if-not-is_marked.true)) ∙ c.loop-lit.invariant
-      | else-not-is-marked+else-not-repeats t ↦ ap (λ (x : List ℕ). collect x (drop (i + 1) ls)) t.work-is
+      | else-not-is_marked+else-not-repeats t ↦ ap (λ (x : List ℕ). collect x (drop (i + 1) ls)) t.work-is
           ∙ sym (collect_again w ls i c.loop-lit-test.true (ap (is_marked w) (sym c.variable.ensures) ∙ sym c.is_marked.ensures ∙ t.if-not-is_marked.false)
           (sym t.repeats.ensures ∙ t.if-not-repeats.false)) ∙ c.loop-lit.invariant
     ]

@@ -4,4 +4,4 @@ use Rattle.cdcl.proofs.propagate.propagate.Given as goal
 
 -- what is left of the trail gives the whole
 abbrev pub invariant-loop-i : goal.invariant-loop-i
-invariant-loop-i l = propagated (16384 - l.-i) l.work ≡ propagated 16384 l.initial.work
+invariant-loop-i l = propagated (16384 - l._i) l.work ≡ propagated 16384 l.initial.work

@@ -1,4 +1,4 @@
-use Rattle.std.proofs.Common.{◌≡◌, ℕ, min, List, sym, refl, ap, ◌∙◌}
+use Rattle.std.proofs.Common.{◌≡◌, ℕ, List, sym, refl, ap, ◌∙◌}
 use Rattle.cdcl.specs.declared.propagate.Step.{Step}
 use Rattle.cdcl.specs.Watch.{propagated}
 use Rattle.cdcl.specs.Turning.{Turned, on_conflict, on_quiet}

@@ -5,6 +5,6 @@ use Rattle.checker.specs.Input.{step_of}
 use Rattle.checker.proofs.Stepping.{has_empty_at}
 use Rattle.checker.proofs.check.has_empty_clause.Goals as goal
 
-pub returns-then-is-empty-clause : goal.returns-then-is-empty-clause
-returns-then-is-empty-clause c = λ _. subst (λ (ps : List ProofStep). has_empty (map step_of ps) ≡ true) c.as-slice-step-items.ensures.value
-    (has_empty_at c.as-slice-step-items.result.now c.loop-step.step-index c.step-item.result c.loop-step-test.true c.step-item.is (c.if-is-empty-clause.ensures refl))
+pub returns-then-is_empty_clause : goal.returns-then-is_empty_clause
+returns-then-is_empty_clause c = λ _. subst (λ (ps : List ProofStep). has_empty (map step_of ps) ≡ true) c.as_slice-step-items.ensures.value
+    (has_empty_at c.as_slice-step-items.result.now c.loop-step.step-index c.step-item.result c.loop-step-test.true c.step-item.is (c.if-is_empty_clause.ensures refl))

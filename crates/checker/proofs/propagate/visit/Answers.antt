@@ -5,22 +5,22 @@ use Rattle.checker.proofs.Forcing.{grows_same, grows_set, refuted_empty, refuted
 use Rattle.checker.proofs.Counting.{stands}
 use Rattle.checker.proofs.propagate.visit.Goals as goal
 
-pub returns-then-is-empty : goal.returns-then-is-empty
-returns-then-is-empty c = record {
+pub returns-then-is_empty : goal.returns-then-is_empty
+returns-then-is_empty c = record {
   grows = grows_same _ _;
-  clash = refuted_empty _ c.row-clause.result.now _ (stands (rows_of c.args.input.now) c.args.active.now c.args.id c.row-clause.result.now c.requires (sym c.is-active.ensures ∙ c.if-not-is-active.false) c.row-clause.ensures)
-      (eqb-true (length c.row-clause.result.now) 0 (sym c.is-empty.ensures ∙ c.if-is-empty.true));
+  clash = refuted_empty _ c.row-clause.result.now _ (stands (rows_of c.args.input.now) c.args.active.now c.args.id c.row-clause.result.now c.requires (sym c.is_active.ensures ∙ c.if-not-is_active.false) c.row-clause.ensures)
+      (eqb-true (length c.row-clause.result.now) 0 (sym c.is_empty.ensures ∙ c.if-is_empty.true));
 }
 
-pub returns-then-is-false : goal.returns-then-is-false
-returns-then-is-false c = record {
+pub returns-then-is_false : goal.returns-then-is_false
+returns-then-is_false c = record {
   grows = grows_same _ _;
-  clash = refuted_but _ c.row-clause.result.now c.args.second _ (stands (rows_of c.args.input.now) c.args.active.now c.args.id c.row-clause.result.now c.requires (sym c.is-active.ensures ∙ c.if-not-is-active.false) c.row-clause.ensures) c.in-default.ensures (sym c.if-is-false.ensures);
+  clash = refuted_but _ c.row-clause.result.now c.args.second _ (stands (rows_of c.args.input.now) c.args.active.now c.args.id c.row-clause.result.now c.requires (sym c.is_active.ensures ∙ c.if-not-is_active.false) c.row-clause.ensures) c.in_default.ensures (sym c.if-is_false.ensures);
 }
 
 pub returns : goal.returns
 returns c = record {
-  grows = grows_set _ c.args.trail.now c.make-true.new.self c.row-clause.result.now c.args.second (stands (rows_of c.args.input.now) c.args.active.now c.args.id c.row-clause.result.now c.requires (sym c.is-active.ensures ∙ c.if-not-is-active.false) c.row-clause.ensures)
-      c.in-default.ensures c.make-true.ensures.round c.make-true.ensures.after;
+  grows = grows_set _ c.args.trail.now c.make_true.new.self c.row-clause.result.now c.args.second (stands (rows_of c.args.input.now) c.args.active.now c.args.id c.row-clause.result.now c.requires (sym c.is_active.ensures ∙ c.if-not-is_active.false) c.row-clause.ensures)
+      c.in_default.ensures c.make_true.ensures.round c.make_true.ensures.after;
   clash = tt;
 }

@@ -13,12 +13,12 @@ loop-byte-preserved c = (
   c.feed.ensures.source ∙ c.loop-byte.invariant.0,
   sym (fed_more c.args.source (state_of c.loop-byte.reader) (state_of c.feed.new.self) c.args.text.now c.loop-byte.byte-index c.loop-byte-test.true
       (subst (λ (k : Source). fed k (state_of c.loop-byte.reader) (get_or c.args.text.now c.loop-byte.byte-index 0) ≡ Some (state_of c.feed.new.self)) c.loop-byte.invariant.0
-      (c.in-ok-feed.ensures.after c.if-not-branch.false)))
+      (c.in_ok-feed.ensures.after c.if-not-branch.false)))
       ∙ c.loop-byte.invariant.1,
 )
 
 pub returns : goal.returns
 returns c = read_done c.args.source c.args.text.now (state_of c.feed-2.new.self)
     (sym c.loop-byte.invariant.1 ∙ fed_last c.args.source (state_of c.loop-byte.reader) (state_of c.feed-2.new.self) c.args.text.now c.loop-byte.byte-index c.loop-byte-test.false
-    (subst (λ (k : Source). fed k (state_of c.loop-byte.reader) 10 ≡ Some (state_of c.feed-2.new.self)) c.loop-byte.invariant.0 (c.in-ok-feed-2.ensures.after c.if-not-branch-2.false)))
-    (sym c.if-not-is-fresh.ensures)
+    (subst (λ (k : Source). fed k (state_of c.loop-byte.reader) 10 ≡ Some (state_of c.feed-2.new.self)) c.loop-byte.invariant.0 (c.in_ok-feed-2.ensures.after c.if-not-branch-2.false)))
+    (sym c.if-not-is_fresh.ensures)

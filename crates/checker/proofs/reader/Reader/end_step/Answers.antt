@@ -8,5 +8,5 @@ returns c = record {
   source = refl;
   lexer = refl;
   after = ended_step (vec_items c.args.self.now.steps) (vec_items c.push.new.self) c.args.self.now.action _ (vec_items c.args.self.now.part) (vec_items c.replace-clause.new.dest)
-      c.in-ok-push.ensures.items (ap (λ v. step_as c.args.self.now.action (vec_items v)) c.replace-clause.ensures.value) (ap (λ v. vec_items v) c.replace-clause.ensures.after ∙ c.new.ensures.items);
+      c.in_ok-push.ensures.items (ap (λ v. step_as c.args.self.now.action (vec_items v)) c.replace-clause.ensures.value) (ap (λ v. vec_items v) c.replace-clause.ensures.after ∙ c.new.ensures.items);
 }
