@@ -1,14 +1,14 @@
 -- A command driven step by step: what has been told so far, and that the rest of the run gives the whole.
 -- One lemma for each way a step can end.
-use Rattle.std.proofs.Common.{◌≡◌, ℕ, zero, suc, ◌+◌, ◌-◌, ◌<◌, ◌≤◌, min, Bool, true, false, ◌&&◌, eqb, ltb, leb, List, [], ◌∷◌, ◌++◌, length, take, drop, replicate, Some, None, Option, sym, refl, ap, ◌∙◌, subst, inl, inr, append-nil, arith, length-take}
+use Rattle.std.proofs.Common.{◌≡◌, ℕ, suc, ◌+◌, ◌-◌, ◌<◌, ◌≤◌, min, Bool, true, false, ◌&&◌, eqb, leb, List, [], ◌∷◌, ◌++◌, length, take, drop, replicate, Some, None, sym, refl, ap, ◌∙◌, subst, inl, inr, append-nil, arith, length-take}
 use Rattle.std.proofs.lemmas.List.{take_at, take_all}
-use Rattle.std.proofs.lemmas.Bool.{le-leb, eq-eqb, and_parts, and_from, cases_lt}
+use Rattle.std.proofs.lemmas.Bool.{le-leb, and_parts, and_from, cases_lt}
 use Rattle.formula.specs.Logic.{pick}
 use Rattle.solver.specs.declared.Told.{Told}
 use Rattle.solver.specs.declared.Told.TheVariants.{Shows, Writes, Done, No}
 use Rattle.solver.specs.declared.run.End.{End}
-use Rattle.solver.specs.declared.run.End.TheVariants.{Finished, Refused, Unfinished, Lost}
-use Rattle.solver.specs.Promise.{Event, next, Act, shows, writes, done, refused, Ran, ran, one_act, runs}
+use Rattle.solver.specs.declared.run.End.TheVariants.{Finished, Refused, Unfinished}
+use Rattle.solver.specs.Promise.{next, Act, shows, writes, done, refused, Ran, ran, one_act, runs}
 use Rattle.solver.specs.State.{zeros}
 use Rattle.solver.specs.Entry.{own, event_of, ActTold, StepSays, step_fits}
 use Rattle.solver.specs.Running.{run_fits, Ended, Handed, RunSays}

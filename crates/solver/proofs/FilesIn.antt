@@ -1,6 +1,6 @@
 -- A file as the code takes it in: its bytes are such as can be handed over, and what is then done is the machine's.
 -- One lemma a fact.
-use Rattle.std.proofs.Common.{◌≡◌, ℕ, suc, ◌<◌, ◌≤◌, Bool, true, ◌&&◌, ltb, leb, List, [], ◌∷◌, length, get_or, sym, refl, ap, ◌∙◌}
+use Rattle.std.proofs.Common.{◌≡◌, ℕ, suc, ◌<◌, ◌≤◌, Bool, true, ltb, List, [], ◌∷◌, length, get_or, sym, refl, ap, ◌∙◌}
 use Rattle.std.proofs.lemmas.Bool.{and_from, le-leb, lt-ltb}
 use Rattle.formula.specs.Logic.{pick, every}
 use Rattle.dimacs.specs.Text.{file_read}
@@ -10,7 +10,7 @@ use Rattle.solver.specs.declared.Told.{Told}
 use Rattle.solver.specs.Promise.{refused}
 use Rattle.solver.specs.State.{State, with_arena, arena_len}
 use Rattle.solver.specs.Coded.{told}
-use Rattle.solver.specs.Machine.{Turn, turn, on_outcome, on_read, file_fits}
+use Rattle.solver.specs.Machine.{Turn, turn, on_outcome, on_read}
 
 bytes_small : (bs : List ℕ) → ((i : ℕ) → get_or bs i 0 < 256) → every (λ b. ltb b 256) bs ≡ true
 unfolding every

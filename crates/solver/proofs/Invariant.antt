@@ -13,7 +13,7 @@ use Rattle.search.specs.Ends.{Turns, still, onward, is_last, row_below}
 use Rattle.dimacs.specs.Text.{vars_of}
 use Rattle.solver.specs.House.{House, Command, refusal, refused_with, After, shown, written, small_command, fitting}
 use Rattle.solver.specs.Promise.{Event, said, next, shows, writes, done, refused, Ran, ran, Right}
-use Rattle.solver.specs.State.{State, flat, with_scalars, with_core, with_work, scalar, phase}
+use Rattle.solver.specs.State.{State, flat, with_scalars, with_core, with_work, scalar}
 use Rattle.solver.specs.Machine.{turn, with_turn, on_event, searched}
 use Rattle.solver.specs.Entry.{own}
 use Rattle.solver.proofs.Runs.{Comes, comes_done, comes_refused, comes_shows, comes_writes, comes_quiet}

@@ -4,7 +4,7 @@ use Rattle.std.proofs.Common.{◌≡◌, ℕ, ◌+◌, ◌≤◌, List, ◌++◌
 use borrow.Rule.Slice.PartMut.{put_mid}
 use Rattle.std.proofs.lemmas.Slice.{drop-put_mid, take-put_mid_below}
 use Rattle.std.proofs.lemmas.List.{drop-take, take_at, drop_at, length-take-le, drop-drop, take-append-drop, take_all, length-drop}
-use Rattle.solver.specs.State.{State, state, view, flat, zeros, with_scalars, with_assumptions, with_core, with_model, with_arena, with_work}
+use Rattle.solver.specs.State.{state, view, flat, zeros, with_scalars, with_assumptions, with_core, with_model, with_arena, with_work}
 use Rattle.solver.specs.Coded.{Sized}
 
 module _ (a k : ℕ) (m t : List ℕ) (inside : a + k ≤ length m) (whole : length t ≡ k) where

@@ -1,6 +1,6 @@
 -- Small lemmas on `pick`, `every` and `larger`.
 -- What holds of both cases holds of a `pick`; what holds of every entry is kept by cuts and writes; the bounds of `larger`.
-use Rattle.std.proofs.Common.{◌≡◌, ℕ, zero, suc, ◌+◌, ◌<◌, ◌≤◌, Bool, true, false, ltb, List, [], ◌∷◌, ◌++◌, get_or, take, drop, set, sym, refl, ⊎_elim, arith}
+use Rattle.std.proofs.Common.{◌≡◌, ℕ, zero, suc, ◌<◌, ◌≤◌, Bool, true, false, ltb, List, [], ◌∷◌, ◌++◌, get_or, take, drop, set, sym, refl, ⊎_elim, arith}
 use lib.Seq.{sets}
 use Rattle.std.proofs.lemmas.Bool.{ltb-true, lt-ltb, le-ltb, and_parts, and_from, cases_lt}
 use borrow.Author.Tests.{clash}

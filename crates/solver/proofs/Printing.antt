@@ -4,7 +4,7 @@ use Rattle.std.proofs.Common.{◌≡◌, ℕ, suc, ◌+◌, ◌-◌, ◌<◌, �
 use Rattle.std.proofs.lemmas.Bool.{le-leb, ne_eqb}
 use Rattle.formula.specs.Logic.{added_up, how_large, Clause}
 use Rattle.formula.specs.Arena.{rows_of, clause_row, size}
-use Rattle.dimacs.specs.Text.{number_text, literal_text, clause_text, clauses_text, formula_text, vars_of}
+use Rattle.dimacs.specs.Text.{literal_text, clause_text, clauses_text, formula_text, vars_of}
 use Rattle.dimacs.specs.Pieces.{header_text, literal_piece, end_piece}
 use Rattle.dimacs.proofs.Writing.{length_header, length_literal, formula_pieces}
 use Rattle.solver.specs.House.{House, Command, print_it, refusal, After, shown, written}

@@ -1,8 +1,8 @@
 -- A row of literals gone through from its first: whether they fit, and how many variables they need.
 -- Each lemma is one turn of the loop, or its end.
-use Rattle.std.proofs.Common.{◌≡◌, ℕ, suc, ◌+◌, ◌/◌, ◌<◌, ◌≤◌, Bool, true, false, ◌&&◌, ltb, List, [], ◌∷◌, length, get_or, drop, sym, ap, ◌∙◌, add-one, arith}
+use Rattle.std.proofs.Common.{◌≡◌, ℕ, ◌+◌, ◌/◌, ◌<◌, ◌≤◌, true, false, List, length, get_or, drop, sym, ap, ◌∙◌, add-one, arith}
 use Rattle.std.proofs.lemmas.List.{at_drop_more, at_drop_all}
-use Rattle.formula.specs.Logic.{pick, every}
+use Rattle.formula.specs.Logic.{every}
 use Rattle.dimacs.specs.Text.{row_vars, larger}
 use Rattle.dimacs.specs.Statements.{lits_fit}
 

@@ -1,6 +1,6 @@
 -- One step as it is told, from what an event does to the tables: `Step-says` from the view of the memory before and after.
 -- The lemmas below `steps` name the event of each kind, and say that no act of theirs writes bytes.
-use Rattle.std.proofs.Common.{◌≡◌, ℕ, ◌+◌, ◌<◌, ◌≤◌, min, Bool, true, false, ◌&&◌, eqb, ltb, leb, List, [], ◌∷◌, length, get_or, sym, refl, ap, ◌∙◌, subst, inl, inr, arith}
+use Rattle.std.proofs.Common.{◌≡◌, ℕ, ◌<◌, ◌≤◌, min, Bool, true, false, ◌&&◌, eqb, ltb, leb, List, [], ◌∷◌, length, get_or, sym, refl, ap, ◌∙◌, subst, inl, inr, arith}
 use mathlib.Core.Bool.{false≢true}
 use lib.ListN.{length-replicate}
 use Rattle.std.proofs.lemmas.Bool.{eq-eqb, eqb-true, ne_eqb, and_parts, and_from, le-leb, leb-true, lt-ltb, cases_eq, cases_Bool}
@@ -14,7 +14,7 @@ use Rattle.search.specs.declared.plain.Finding.{Finding}
 use Rattle.search.specs.declared.plain.Finding.TheVariants.{Exhausted, Back, Conflict, Failed, Open, Full}
 use Rattle.search.specs.Plain.{look}
 use Rattle.solver.specs.declared.Told.{Told}
-use Rattle.solver.specs.declared.Told.TheVariants.{Shows, Writes, Done, No}
+use Rattle.solver.specs.declared.Told.TheVariants.{No}
 use Rattle.solver.specs.House.{new_var, add, assume, solve, model_of, failed_core, read_file, print_it, prove}
 use Rattle.solver.specs.Promise.{Event, said, next, Act, shows, writes, done, refused}
 use Rattle.solver.specs.State.{State, view, flat, zeros, with_arena, num_vars, num_assumptions, arena_len, verdict, phase, cursor, lits_left, clauses_left, pending, ending, formula, assumed}

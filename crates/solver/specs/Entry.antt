@@ -1,13 +1,13 @@
 -- What the public functions answer: `luby`'s terms, and one step of the machine as it is told to its caller.
 -- Definitions only; the contracts of src/lib.rt name them.
-use Rattle.std.specs.Prelude.{◌≡◌, ℕ, zero, suc, ◌+◌, ◌-◌, ◌*◌, ◌/◌, ◌%◌, ◌<◌, ◌≤◌, Bool, true, false, not, ◌&&◌, List, [], ◌∷◌, ◌++◌, length, drop, ◌==◌, nat_le, nat_lt}
-use Rattle.formula.specs.Logic.{pick, every, any}
-use Rattle.solver.specs.House.{Command, new_var, add, assume, solve, model_of, failed_core, read_file, print_it, prove}
+use Rattle.std.specs.Prelude.{◌≡◌, ℕ, zero, suc, ◌*◌, ◌/◌, ◌%◌, Bool, true, false, ◌&&◌, List, ◌++◌, length, drop, ◌==◌, nat_le, nat_lt}
+use Rattle.formula.specs.Logic.{pick}
+use Rattle.solver.specs.House.{new_var, add, assume, solve, model_of, failed_core, read_file, print_it, prove}
 use Rattle.solver.specs.declared.Reply.{Reply}
 use Rattle.solver.specs.declared.Reply.TheVariants.{Term, Refused}
 use Rattle.solver.specs.State.{zeros}
 use Rattle.solver.specs.Machine.{machine_step}
-use Rattle.solver.specs.Promise.{Engine, Event, said, next, Act, shows, writes, done, refused, Move}
+use Rattle.solver.specs.Promise.{Engine, Event, said, next, Act, shows, writes, done, refused}
 use Rattle.solver.specs.declared.Told.{Told}
 use Rattle.solver.specs.declared.Told.TheVariants.{Shows, Writes, Done, No}
 

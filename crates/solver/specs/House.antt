@@ -1,7 +1,7 @@
 -- What can be asked of the solver, and what it is to answer: commands, refusals, models, cores and proofs.
 -- Definitions only; nothing here knows of a search.
-use Rattle.std.specs.Prelude.{◌≡◌, ℕ, zero, suc, ◌+◌, ◌-◌, ◌*◌, ◌/◌, ◌%◌, ◌<◌, ◌≤◌, Bool, true, false, not, ◌&&◌, ltb, ◌⊎◌, List, [], ◌∷◌, ◌++◌, length, drop, ◌==◌, nat_le, nat_lt}
-use Rattle.formula.specs.Logic.{pick, or, every, any, those, each, none_of, Clause, var_of, Truth, all_true, CanBe, CannotBe, units, has, truth_of, how_large, Step, adds, deletes, holds, has_empty, same_row}
+use Rattle.std.specs.Prelude.{◌≡◌, ℕ, suc, ◌/◌, Bool, true, false, not, ◌&&◌, ltb, ◌⊎◌, List, [], ◌∷◌, ◌++◌, length, drop, ◌==◌, nat_le, nat_lt}
+use Rattle.formula.specs.Logic.{pick, every, none_of, Clause, all_true, CannotBe, units, has, truth_of, how_large, Step, holds, has_empty}
 use Rattle.dimacs.specs.Text.{Read, goes_on, wrong, file_read, formula_text, proof_text, row_vars, vars_of, larger}
 use Rattle.dimacs.specs.Statements.{lits_fit}
 

@@ -7,4 +7,4 @@ pub mod Machine
 pub mod Entry
 pub mod Coded
 pub mod Running
-pub mod CollectedOutputLemmas
+pub mod Collected

@@ -1,6 +1,6 @@
 -- The machine: what each command and each going-on does to the state, and what it tells. Definitions only, total on any state;
 -- the theorem `Whole` says what they mean.
-use Rattle.std.specs.Prelude.{ℕ, suc, ◌+◌, ◌-◌, min, Bool, true, false, ◌&&◌, ltb, List, [], ◌∷◌, length, ◌==◌, nat_le, nat_lt, slice_index}
+use Rattle.std.specs.Prelude.{ℕ, ◌+◌, ◌-◌, min, Bool, ◌&&◌, ltb, List, [], length, ◌==◌, nat_le, nat_lt, slice_index}
 use Rattle.std.proofs.lemmas.List.Edits.{sets}
 use Rattle.formula.specs.Logic.{pick, every, none_of, Clause}
 use Rattle.formula.specs.Arena.{clause_row}

@@ -1,7 +1,7 @@
 -- What an engine is, how a command runs on it, and what it promises of every list of commands: `Whole`.
 -- Each promise is a type; it is proved where a function's contract names it.
-use Rattle.std.specs.Prelude.{◌≡◌, ℕ, zero, suc, ◌+◌, ◌-◌, ◌*◌, ◌/◌, ◌%◌, ◌<◌, ◌≤◌, Bool, true, false, not, ◌&&◌, ltb, List, [], ◌∷◌, ◌++◌, length, nat_eq, nat_le, nat_lt}
-use Rattle.formula.specs.Logic.{pick, every, Clause, CanBe, CannotBe, units}
+use Rattle.std.specs.Prelude.{◌≡◌, ℕ, zero, suc, ◌<◌, ◌≤◌, Bool, true, false, ◌&&◌, ltb, List, [], ◌∷◌, ◌++◌, length, nat_eq, nat_le, nat_lt}
+use Rattle.formula.specs.Logic.{pick, every, CanBe, CannotBe, units}
 use Rattle.solver.specs.House.{House, house, Command, refusal, refused_with, After, shown, written, small_command, AModel, ACore}
 
 pub data Event : Type 0 where

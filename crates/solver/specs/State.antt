@@ -1,6 +1,6 @@
 -- The machine's memory as a record of tables, how it is cut out of one row of numbers, and the scalars by name.
 -- Definitions only. The formula's half comes first; `work` is the search's own.
-use Rattle.std.specs.Prelude.{ℕ, List, [], ◌∷◌, ◌++◌, length, take, drop, replicate, slice_index, slice_set}
+use Rattle.std.specs.Prelude.{ℕ, List, ◌++◌, take, drop, replicate, slice_index, slice_set}
 use Rattle.formula.specs.Logic.{Clause}
 use Rattle.formula.specs.Arena.{clauses_in}
 

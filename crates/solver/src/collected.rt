@@ -1,8 +1,7 @@
 // The sink that keeps what a command shows and writes, in the order in which it came.
 // It promises that what it holds grows by just what it is told.
 ghost use Rattle.std.specs.Prelude.{◌≡◌, ◌++◌};
-ghost use Rattle.solver.specs.CollectedOutputLemmas.{grown};
-ghost use Rattle.std.proofs.Common.{rules};
+ghost use Rattle.solver.specs.Collected.{grown, grown_by_nothing};
 
 use crate::run::Output;
 use std::alloc::Global;
@@ -25,7 +24,7 @@ impl Collected {
 impl Output for Collected {
     ghost told = { λ a ss ws b. (b.shown.items ≡ a.shown.items ++ ss) × (b.written.items ≡ a.written.items ++ ws) };
 
-    ghost nothing = { Prim.search rules };
+    ghost nothing = { λ a. (grown_by_nothing a.shown.items, grown_by_nothing a.written.items) };
 
     ghost after = { λ a b c ss ts ws vs p q. (grown _ _ _ ss ts p.0 q.0, grown _ _ _ ws vs p.1 q.1) };
 

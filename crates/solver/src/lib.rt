@@ -1,4 +1,6 @@
 // The solver as a machine: what its commands answer, and the functions whose contracts promise it.
+#![tactic(auto)]
+
 ghost use Rattle.std.specs.Prelude.{◌≡◌, ◌≤◌, length, replicate};
 ghost use Rattle.solver.specs.Known.{all_but_proofs};
 ghost use Rattle.solver.specs.Promise.{Whole};

@@ -29,6 +29,7 @@ pub trait Output {
     fn write(&mut self, bytes: &[u8]) -> bool
         ensures { T result → told self.old [] bytes.now self.new };
 
+    // The laws: who is told nothing has not changed, and what is told comes one after another.
     ghost nothing: { (a : Self) → told a [] [] a };
 
     ghost after: { (a b c : Self) (ss ts ws vs : List ℕ) → told a ss ws b → told b ts vs c → told a (ss ++ ts) (ws ++ vs) c };

@@ -5,8 +5,8 @@ use Rattle.solver.proofs.step.Goals as goal
 pub returns-then-not-fits : goal.returns-then-not-fits
 returns-then-not-fits c = search (rules, stays)
 
-pub new-var-requires : goal.new-var-requires
-new-var-requires c = search (rules, fits_sized)
+pub new_var-requires : goal.new_var-requires
+new_var-requires c = search (rules, fits_sized)
 
 pub returns-in-0 : goal.returns-in-0
 returns-in-0 c = search (rules, steps, kind_0, quiet_written, new_var_quiet)
@@ -41,8 +41,8 @@ core-requires c = search (rules, fits_sized)
 pub returns-in-5 : goal.returns-in-5
 returns-in-5 c = search (rules, steps, kind_5, quiet_written, core_quiet)
 
-pub read-in-requires : goal.read-in-requires
-read-in-requires c = search (rules, fits_sized, fits_bytes)
+pub read_in-requires : goal.read_in-requires
+read_in-requires c = search (rules, fits_sized, fits_bytes)
 
 pub returns-in-6 : goal.returns-in-6
 returns-in-6 c = search (rules, steps, kind_6, quiet_written, read_quiet)
@@ -53,11 +53,11 @@ print-requires c = search (rules, fits_sized, fits_room)
 pub returns-in-7 : goal.returns-in-7
 returns-in-7 c = search (rules, steps, kind_7)
 
-pub go-on-requires : goal.go-on-requires
-go-on-requires c = search (rules, fits_sized, fits_room)
+pub go_on-requires : goal.go_on-requires
+go_on-requires c = search (rules, fits_sized, fits_room)
 
 pub returns-in-9 : goal.returns-in-9
 returns-in-9 c = search (rules, steps, kind_9)
 
-pub returns-in-default : goal.returns-in-default
-returns-in-default c = search (rules, step_unknown)
+pub returns-in_default : goal.returns-in_default
+returns-in_default c = search (rules, step_unknown)

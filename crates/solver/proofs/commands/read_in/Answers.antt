@@ -10,24 +10,24 @@ pub returns-in-Formula : goal.returns-in-Formula
 returns-in-Formula c =
     let s = view c.args.m.now in
     let s₁ = view c.read_file.new.m in
-    let small : (i : ℕ) → get_or c.args.bytes.now i 0 < 256 = λ i. let f = c.type-inv.bytes i in omega arith in
+    let small : (i : ℕ) → get_or c.args.bytes.now i 0 < 256 = λ i. let f = c.type_inv.bytes i in omega arith in
     let d : Formula c.in-Formula.counts ≡ outcome_of (file_read c.args.bytes.now) = sym c.in-Formula.is ∙ c.read_file.ensures.answer in
     record {
       after = read_after s s₁ c.args.bytes.now c.read-start.result (Formula c.in-Formula.counts) c.requires.1 small c.read-start.ensures c.read_file.ensures.after d
-          (view c.take-clauses.new.m) c.take-clauses.ensures.after;
+          (view c.take_clauses.new.m) c.take_clauses.ensures.after;
       answer = read_told s s₁ c.args.bytes.now c.read-start.result (Formula c.in-Formula.counts) c.requires.1 small c.read-start.ensures c.read_file.ensures.after d
-          c.take-clauses.result c.take-clauses.ensures.answer;
+          c.take_clauses.result c.take_clauses.ensures.answer;
     }
 
 pub returns-in-Wrong : goal.returns-in-Wrong
 returns-in-Wrong c =
     let s = view c.args.m.now in
     let s₁ = view c.read_file.new.m in
-    let small : (i : ℕ) → get_or c.args.bytes.now i 0 < 256 = λ i. let f = c.type-inv.bytes i in omega arith in
+    let small : (i : ℕ) → get_or c.args.bytes.now i 0 < 256 = λ i. let f = c.type_inv.bytes i in omega arith in
     let d : Wrong c.in-Wrong.fault ≡ outcome_of (file_read c.args.bytes.now) = sym c.in-Wrong.is ∙ c.read_file.ensures.answer in
     record {
       after = read_after s s₁ c.args.bytes.now c.read-start.result (Wrong c.in-Wrong.fault) c.requires.1 small c.read-start.ensures c.read_file.ensures.after d
-          (view c.tell-fault.new.m) c.tell-fault.ensures.after;
+          (view c.tell_fault.new.m) c.tell_fault.ensures.after;
       answer = read_told s s₁ c.args.bytes.now c.read-start.result (Wrong c.in-Wrong.fault) c.requires.1 small c.read-start.ensures c.read_file.ensures.after d
-          c.tell-fault.result c.tell-fault.ensures.answer;
+          c.tell_fault.result c.tell_fault.ensures.answer;
     }

@@ -6,8 +6,8 @@ use Rattle.solver.proofs.tables.read_file.Goals as goal
 pub returns : goal.returns
 unfolding view
 returns c =
-    let h : length c.read-formula.new.table ≡ 81920 = omega arith in
+    let h : length c.read_formula.new.table ≡ 81920 = omega arith in
     record {
-      after = view_arena c.args.m.now c.read-formula.new.table c.requires h ∙ ap (with_arena (view c.args.m.now)) c.read-formula.ensures.table;
-      answer = c.read-formula.ensures.outcome;
+      after = view_arena c.args.m.now c.read_formula.new.table c.requires h ∙ ap (with_arena (view c.args.m.now)) c.read_formula.ensures.table;
+      answer = c.read_formula.ensures.outcome;
     }
