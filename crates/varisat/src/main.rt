@@ -1,8 +1,11 @@
 // The program varisat: what its arguments ask for, and what is told on standard error if that can't be had.
 // The modules hold what is promised; what a program prints no contract can speak of.
+#![tactic(auto)]
+
 use crate::options::{Misuse, Task, task_of};
 use crate::solving::Trouble;
 use std::alloc::{AllocError, AllocFailed};
+use std::process::ExitCode;
 use std::{env, fmt, io};
 
 mod literal;
@@ -79,10 +82,12 @@ fn run(rt: &HostRuntime) -> Result<(), Failure> {
     Ok(())
 }
 
-fn main(rt: HostRuntime) -> Result<(), Failure> {
-    let ended = run(&rt);
-    if let Err(failure) = &ended {
-        let _ = eprintln!(rt; "varisat: {failure}");
+fn main(rt: HostRuntime) -> ExitCode {
+    match run(&rt) {
+        Ok(()) => ExitCode::SUCCESS,
+        Err(failure) => {
+            let _ = eprintln!(rt; "varisat: {failure}");
+            ExitCode::FAILURE
+        }
     }
-    ended
 }

@@ -8,7 +8,6 @@ use crate::usage;
 use solver::collected::Collected;
 use solver::kind;
 use solver::run::End;
-use std::alloc::AllocError;
 use std::io::{BufRead, BufReader, Read};
 use std::str::from_utf8;
 use std::{fs, io};
@@ -28,11 +27,11 @@ struct Session {
 }
 
 impl Session {
-    fn new(rt: &HostRuntime) -> Result<Session, AllocError> {
+    fn new(rt: &HostRuntime) -> io::Result<Session> {
         Ok(Session {
             rt: *rt,
             machine: Machine::new(rt.alloc())?,
-            printer: Printer::new(rt.stdout()),
+            printer: Printer::new(rt.alloc(), rt.stdout())?,
             line: 0,
         })
     }

@@ -1,11 +1,14 @@
 // varisat_check FORMULA PROOF: says whether a proof shows that a formula can't be true.
 // "s VERIFIED" rests on what `checker::verify` promises of `Verified`; here files are read and lines are printed.
+#![tactic(auto)]
+
 use anyhow::anyhow;
 use checker::check::Verdict;
 use checker::reader::{Problem, Source};
 use checker::verify::verify;
 use std::alloc::{AllocError, Global};
 use std::io::Read;
+use std::process::ExitCode;
 use std::{env, fs, io};
 
 const HELP: &str = "usage: varisat_check FORMULA PROOF
@@ -47,7 +50,7 @@ fn unreadable(heap: Global, name: &str, error: &io::Error) -> Result<String, All
 fn read_file(rt: &HostRuntime, name: &str) -> anyhow::Result<Vec<u8>> {
     match fs::read(rt, name) {
         Ok(text) => Ok(text),
-        Err(e) => Err(unreadable(rt.alloc(), name, &e)?.into()),
+        Err(e) => Err(anyhow!(unreadable(rt.alloc(), name, &e)?)),
     }
 }
 
@@ -110,14 +113,16 @@ fn run(rt: &HostRuntime) -> anyhow::Result<()> {
     let proof = read_text(rt, files.proof.as_str())?;
     match verify(rt.alloc(), &formula, &proof) {
         Ok(verdict) => say(rt, verdict),
-        Err(problem) => Err(told(rt.alloc(), &files, problem)?.into()),
+        Err(problem) => Err(anyhow!(told(rt.alloc(), &files, problem)?)),
     }
 }
 
-fn main(rt: HostRuntime) -> anyhow::Result<()> {
-    let result = run(&rt);
-    if let Err(e) = &result {
-        eprintln!(rt; "varisat_check: {e}")?;
+fn main(rt: HostRuntime) -> ExitCode {
+    match run(&rt) {
+        Ok(()) => ExitCode::SUCCESS,
+        Err(e) => {
+            let _ = eprintln!(rt; "varisat_check: {e}");
+            ExitCode::FAILURE
+        }
     }
-    result
 }

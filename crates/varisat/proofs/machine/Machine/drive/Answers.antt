@@ -9,7 +9,7 @@ lent_back P a b x y e f h = subst (λ (m : List ℕ). P m y) e (subst (λ (m : L
 
 pub returns : goal.returns
 returns g c =
-    let lent = c.as-mut-slice.ensures in
-    lent_back (λ m₀ m₁. RunSays (λ ss ws. g.row.O-Output.told c.args.out.now ss ws c.run.new.out) m₀ c.args.kind c.args.row.now c.args.bytes.now c.args.budget
+    let lent = c.as_mut_slice.ensures in
+    lent_back (λ m₀ m₁. RunSays (λ ss ws. g.O.Output.told c.args.out.now ss ws c.run.new.out) m₀ c.args.kind c.args.row.now c.args.bytes.now c.args.budget
     (run_fits m₀ c.args.kind c.args.row.now c.args.bytes.now) c.run.result m₁)
     _ _ _ _ lent.value (with_items_is c.args.self.now.memory c.run.new.memory (c.run.auto.memory ∙ lent.len)) c.run.ensures

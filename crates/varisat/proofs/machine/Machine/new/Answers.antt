@@ -7,7 +7,7 @@ use Rattle.varisat.proofs.machine.Machine.new.Goals as goal
 pub returns : goal.returns
 unfolding own zeros
 returns c =
-    let lent = c.as-mut-slice.ensures in
-    let long : vec_len c.in-ok-memory.memory ≡ 524288 = search rules in
-    with_items_is c.in-ok-memory.memory c.begin.new.memory (c.begin.auto.memory ∙ lent.len)
+    let lent = c.as_mut_slice.ensures in
+    let long : vec_len c.in_ok-memory.memory ≡ 524288 = search rules in
+    with_items_is c.in_ok-memory.memory c.begin.new.memory (c.begin.auto.memory ∙ lent.len)
     ∙ (c.begin.ensures.cleared ∙ ap (λ (n : ℕ). replicate n 0) (lent.len ∙ long))
