@@ -1,4 +1,4 @@
--- A formula and a proof as their bytes are read: `formula-read` and `proof-read`, None where the text is malformed.
+-- A formula and a proof as their bytes are read: `formula_read` and `proof_read`, None where the text is malformed.
 -- A byte at a time gives a token or none; a clause or step ends at its 0, wherever lines end.
 use Rattle.std.specs.Prelude.{ℕ, Bool, true, false, not, ◌&&◌, List, [], ◌∷◌, ◌++◌, map, Some, None, Option}
 use Rattle.std.specs.Option.{option_map}

@@ -1,5 +1,5 @@
 -- A literal that is done, in a table and in the counts: what code writes is what the definitions lay there.
--- First rows written one after another, then `literal-done`.
+-- First rows written one after another, then `literal_done`.
 use Rattle.std.proofs.Common.{◌≡◌, ℕ, suc, ◌+◌, ◌-◌, ◌*◌, ◌/◌, ◌<◌, Bool, true, false, eqb, ◌≢◌, List, [], ◌∷◌, ◌++◌, length, set, sym, refl, ap, ◌∙◌, append_assoc, append-nil, arith}
 use lib.Seq.{sets}
 use Rattle.std.proofs.lemmas.List.{set_comm, length-append, length_push}

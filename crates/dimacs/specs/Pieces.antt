@@ -1,5 +1,5 @@
 -- A formula's text in pieces: the header, a literal with its blank, the end of a clause. Definitions only; in this order the
--- pieces are `formula-text`.
+-- pieces are `formula_text`.
 use Rattle.std.specs.Prelude.{◌≡◌, ℕ, Bool, true, false, List, [], ◌∷◌, ◌++◌, length, drop}
 use Rattle.dimacs.specs.Text.{number_text, literal_text}
 

@@ -1,5 +1,5 @@
 -- How formulas and proofs are written in bytes: the text form of CNF files, read byte by byte, and DRAT's text form.
--- Definitions only: `file-read` is the reader, `formula-text` and `proof-text` are the writers.
+-- Definitions only: `file_read` is the reader, `formula_text` and `proof_text` are the writers.
 use Rattle.std.specs.Prelude.{ℕ, zero, suc, ◌+◌, ◌-◌, ◌*◌, ◌/◌, ◌%◌, Bool, true, false, not, ◌&&◌, ltb, List, [], ◌∷◌, ◌++◌, length, take, drop, ◌==◌, nat_le, nat_lt}
 use Rattle.formula.specs.Logic.{pick, or, any, none_of, Clause, var_of, Step, adds, deletes}
 

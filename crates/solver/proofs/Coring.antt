@@ -1,4 +1,4 @@
--- What comes of `failed-core` from a memory at rest: the assumptions that are marked, one place a step, quietly where there is no mark.
+-- What comes of `failed_core` from a memory at rest: the assumptions that are marked, one place a step, quietly where there is no mark.
 -- With an empty core it is done at once, and where there is none it is refused.
 use Rattle.std.proofs.Common.{◌≡◌, ℕ, zero, suc, ◌+◌, ◌<◌, Bool, true, false, eqb, ltb, List, [], ◌∷◌, ◌++◌, length, get_or, drop, sym, refl, ap, ◌∙◌, subst, append_assoc, append-nil, zero-add, arith, get_or-take}
 use Rattle.std.proofs.lemmas.List.{drop_more, drop_all}

@@ -1,5 +1,5 @@
--- What comes of `read-file` from a memory at rest: its clauses are the house's if they fit, and else the house is as it was; what is wrong in a
--- file is told in its numbers. `read_answer` is promised of it, and `goes-big` of bytes that are too many.
+-- What comes of `read_file` from a memory at rest: its clauses are the house's if they fit, and else the house is as it was; what is wrong in a
+-- file is told in its numbers. `read_answer` is promised of it, and `goes_big` of bytes that are too many.
 use Rattle.std.proofs.Common.{◌≡◌, ℕ, ◌+◌, ◌<◌, ◌≤◌, min, Bool, true, false, not, ◌&&◌, eqb, leb, List, [], ◌∷◌, ◌++◌, length, get_or, take, drop, sym, refl, ap, ◌∙◌, subst, arith, length-append, length-drop}
 use lib.Seq.{sets, length-sets}
 use Rattle.std.proofs.lemmas.Bool.{ne_eqb, le-leb, lt-ltb, and_from}

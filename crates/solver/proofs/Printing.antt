@@ -1,5 +1,5 @@
--- What comes of `print-it` from a memory at rest: the formula's text in pieces, first the header, then of each clause its literals and its end.
--- `print-answer` is promised of it; the house stays as it was.
+-- What comes of `print_it` from a memory at rest: the formula's text in pieces, first the header, then of each clause its literals and its end.
+-- `print_answer` is promised of it; the house stays as it was.
 use Rattle.std.proofs.Common.{◌≡◌, ℕ, suc, ◌+◌, ◌-◌, ◌<◌, ◌≤◌, min, Bool, true, false, eqb, leb, List, [], ◌∷◌, ◌++◌, length, get_or, drop, sym, refl, ap, ◌∙◌, subst, append_assoc, append-nil, add-zero, arith, length-append, length-drop, take-append-drop, get_or-drop, drop-drop, drop_at}
 use Rattle.std.proofs.lemmas.Bool.{le-leb, ne_eqb}
 use Rattle.formula.specs.Logic.{added_up, how_large, Clause}

@@ -1,4 +1,4 @@
--- What the machine prints, read by a machine that begins, is printed by that one just so: `prints-back`, given that plain search ends.
+-- What the machine prints, read by a machine that begins, is printed by that one just so: `prints_back`, given that plain search ends.
 -- From any memory that commands lead to: it is at rest with a house, whose clauses the text has.
 use Rattle.std.proofs.Common.{◌≡◌, ℕ, zero, suc, ◌<◌, Bool, true, false, List, [], ◌++◌, sym, refl, ap, ◌∙◌, subst, ⊎_elim, arith}
 use Rattle.std.proofs.lemmas.Bool.{cases_Bool}

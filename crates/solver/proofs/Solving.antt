@@ -1,5 +1,5 @@
 -- What comes of `solve` from a memory at rest: what is known is told again, and else the search runs to its end.
--- `solve-answer` is promised given that plain search ends: a model or a core of the house, and at rest with it.
+-- `solve_answer` is promised given that plain search ends: a model or a core of the house, and at rest with it.
 use Rattle.std.proofs.Common.{◌≡◌, ℕ, ◌≤◌, min, Bool, true, false, eqb, List, [], ◌∷◌, ◌++◌, length, take, drop, set, sym, refl, ap, ◌∙◌, inl, inr, arith, length-set}
 use lib.Seq.{sets, length-sets, drop-length}
 use borrow.Author.Tests.{clash}

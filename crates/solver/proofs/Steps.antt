@@ -1,4 +1,4 @@
--- One step as it is told, from what an event does to the tables: `Step-says` from the view of the memory before and after.
+-- One step as it is told, from what an event does to the tables: `StepSays` from the view of the memory before and after.
 -- The lemmas below `steps` name the event of each kind, and say that no act of theirs writes bytes.
 use Rattle.std.proofs.Common.{◌≡◌, ℕ, ◌<◌, ◌≤◌, min, Bool, true, false, ◌&&◌, eqb, ltb, leb, List, [], ◌∷◌, length, get_or, sym, refl, ap, ◌∙◌, subst, inl, inr, arith}
 use mathlib.Core.Bool.{false≢true}

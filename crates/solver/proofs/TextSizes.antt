@@ -1,5 +1,5 @@
 -- How long the text of a formula is: within the limits of clauses and literals it is bytes, and no more than can be read at once.
--- `text-fits` is promised of it.
+-- `text_fits` is promised of it.
 use Rattle.std.proofs.Common.{◌≡◌, ℕ, zero, suc, ◌+◌, ◌*◌, ◌/◌, ◌%◌, ◌^◌, ◌<◌, ◌≤◌, Bool, true, eqb, ltb, List, [], ◌∷◌, length, refl, arith, length-append}
 use Rattle.std.proofs.lemmas.Bool.{ltb-true, lt-ltb, le-leb, and_parts, and_from}
 use Rattle.formula.specs.Logic.{every, added_up, how_large, Clause}
