@@ -1,10 +1,9 @@
 -- The steps, one after another: how far the check has come after each, and what that says at the end.
-use Rattle.std.proofs.Common.{◌≡◌, ℕ, zero, suc, ◌+◌, ◌-◌, ◌<◌, ◌≤◌, Bool, true, List, [], ◌∷◌, ◌++◌, map, length, get_or, drop, replicate, vec_items, sym, refl, ap, ◌∙◌, subst, arith, length-append}
+use Rattle.std.proofs.Common.{◌≡◌, ℕ, ◌+◌, ◌-◌, ◌<◌, ◌≤◌, Bool, true, false, eqb, List, [], ◌∷◌, ◌++◌, map, length, get_or, drop, replicate, vec_items, sym, refl, ap, ◌∙◌, subst, arith, length-append}
 use lib.ListN.{length-replicate, length-map}
-use Rattle.std.proofs.lemmas.List.{drop_all, nil_from_length}
+use Rattle.std.proofs.lemmas.List.{drop_all}
 use Rattle.std.proofs.lemmas.Bool.{and_from}
-use Rattle.formula.specs.Logic.{none_of, Clause, Step, adds, deletes, by_propagation, holds, has_empty, without}
-use Rattle.formula.proofs.Rows.{or_right}
+use Rattle.formula.specs.Logic.{or, Clause, Step, adds, deletes, by_propagation, holds, has_empty, without}
 use Rattle.formula.proofs.Deletions.{copies}
 use Rattle.checker.specs.declared.input.Input.{Input}
 use Rattle.checker.specs.declared.input.ProofStep.{ProofStep}
@@ -16,6 +15,7 @@ use Rattle.checker.specs.Forced.{Low}
 use Rattle.checker.specs.Going.{Fewer, Going}
 use Rattle.checker.proofs.InputRows.{row_step, step_at}
 use Rattle.checker.proofs.Counting.{standing_all, fewer_added, follows_fewer}
+use Rattle.checker.proofs.TextRead.{empty_none}
 
 pub going_start : (x : Input) (bs : List Bool) (t : Trail) (n : ℕ) → bs ≡ replicate n true → n ≡ length (vec_items x.formula) → Low t → t.round ≡ 0 → Going x bs t 0
 unfolding Fewer
@@ -69,16 +69,23 @@ unfolding holds
 going_end x bs t j g h = g.rest (ap (holds g.clauses) (drop_all j (steps_of x) (omega (arith, length-map (vec_items x.steps) step_of))))
 
 -- THE EMPTY CLAUSE
-has_empty_more : (s : Step) (ss : List Step) → has_empty ss ≡ true → has_empty (s ∷ ss) ≡ true
+has_empty_first : (s : Step) (ss : List Step) → has_empty (s ∷ ss) ≡ or (has_empty (s ∷ [])) (has_empty ss)
 unfolding has_empty
-has_empty_more (adds c) ss h = or_right (none_of c) (has_empty ss) h
-has_empty_more (deletes c) ss h = h
+has_empty_first (adds c) ss = grind arith
+has_empty_first (deletes c) ss = refl
 
-pub has_empty_at : (ps : List ProofStep) (j : ℕ) (s : ProofStep) → j < length ps → s ≡ get_or ps j s → step_of s ≡ adds [] → has_empty (map step_of ps) ≡ true
-unfolding has_empty none_of
-has_empty_at [] j s h e a = absurd (omega arith)
-has_empty_at (p ∷ ps) zero s h e a = ap (λ (y : Step). has_empty (y ∷ map step_of ps)) (sym (ap step_of e) ∙ a)
-has_empty_at (p ∷ ps) (suc j) s h e a = has_empty_more (step_of p) (map step_of ps) (has_empty_at ps j s (omega arith) e a)
+module _ (x : Input) (ps : List ProofStep) (q : ps ≡ vec_items x.steps) (j : ℕ) where
+  pub has_empty_drop : (s : ProofStep) → j < length ps → s ≡ get_or ps j s → has_empty (drop j (steps_of x)) ≡ or (has_empty (step_of s ∷ [])) (has_empty (drop (j + 1) (steps_of x)))
+  has_empty_drop s h e = ap has_empty (step_at x j s (omega (arith, ap length q)) (e ∙ ap (λ (ys : List ProofStep). get_or ys j s) q)) ∙ has_empty_first (step_of s) (drop (j + 1) (steps_of x))
 
-pub empty_step : (s : ProofStep) → s.action ≡ Add → length (vec_items s.clause) ≡ 0 → step_of s ≡ adds []
-empty_step s a h = ap (λ v. step_as v (vec_items s.clause)) a ∙ ap adds (nil_from_length (vec_items s.clause) h)
+  pub has_empty_end : length ps ≤ j → has_empty (drop j (steps_of x)) ≡ false
+  unfolding has_empty
+  has_empty_end h = ap has_empty (drop_all j (steps_of x) (omega (arith, ap length q, length-map (vec_items x.steps) step_of)))
+
+pub empty_step : (s : ProofStep) (n : ℕ) → s.action ≡ Add → n ≡ length (vec_items s.clause) → eqb n 0 ≡ has_empty (step_of s ∷ [])
+unfolding has_empty
+empty_step s n a e = let k = empty_none (vec_items s.clause) n e in let f = ap (λ v. has_empty (step_as v (vec_items s.clause) ∷ [])) a in grind arith
+
+pub no_empty_step : (s : ProofStep) → s.action ≡ Delete → false ≡ has_empty (step_of s ∷ [])
+unfolding has_empty
+no_empty_step s a = sym (ap (λ v. has_empty (step_as v (vec_items s.clause) ∷ [])) a)

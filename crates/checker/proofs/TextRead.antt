@@ -1,9 +1,9 @@
 -- The reading of a text byte by byte, and what the reader's tests say of its lists.
-use Rattle.std.proofs.Common.{◌≡◌, ℕ, ◌+◌, ◌<◌, ◌≤◌, Bool, true, ◌&&◌, eqb, List, [], ◌∷◌, ◌++◌, map, length, get_or, drop, Some, None, vec_items, Option, sym, refl, ap, ◌∙◌, arith}
+use Rattle.std.proofs.Common.{◌≡◌, ℕ, ◌+◌, ◌<◌, ◌≤◌, Bool, true, false, ◌&&◌, eqb, List, [], ◌∷◌, ◌++◌, map, length, get_or, drop, Some, None, vec_items, Option, sym, refl, ap, ◌∙◌, arith}
 use Rattle.std.specs.Option.{option_map}
 use Rattle.std.proofs.lemmas.Bool.{ne_eqb}
 use Rattle.std.proofs.lemmas.List.{at_drop_more, at_drop_all, map_push}
-use Rattle.formula.specs.Logic.{pick, none_of, Clause, Step}
+use Rattle.formula.specs.Logic.{pick, none_of, Clause, Step, holds, has_empty}
 use Rattle.checker.specs.declared.input.Action.{Action}
 use Rattle.checker.specs.declared.input.Action.TheVariants.{Add, Delete}
 use Rattle.checker.specs.declared.input.ProofStep.{ProofStep}
@@ -16,7 +16,7 @@ use Rattle.checker.specs.declared.check.Verdict.TheVariants.{Verified, Fails, No
 use Rattle.checker.specs.Input.{clause_of, step_as, step_of, formula_of, steps_of}
 use Rattle.checker.specs.Reading.{Building, building, is_add, is_fresh, fed, all_fed, closed, first_state, text_read, clause_in}
 use Rattle.checker.specs.Right.{Right}
-use Rattle.checker.specs.Verified.{Says}
+use Rattle.checker.specs.Verified.{Holds, Says}
 
 -- TESTS
 pub empty_none : {A : Type 0} (xs : List A) (n : ℕ) → n ≡ length xs → eqb n 0 ≡ none_of xs
@@ -62,15 +62,18 @@ clauses_read (p ∷ ps) = ap (λ (c : Clause). c ∷ map clause_in (map step_of 
     own Add c = refl
     own Delete c = refl
 
-pub says : (f p : List ℕ) (x : Input) (v : Verdict) → text_read Formula f ≡ Some (map step_of (vec_items x.formula)) → text_read Proof p ≡ Some (map step_of (vec_items x.steps)) →
-    Right (formula_of x) (steps_of x) v → Says f p v
-says f p x Verified e q r = record {
-  clauses = formula_of x;
-  steps = steps_of x;
-  formula_is = ap (option_map (map clause_in)) e ∙ ap Some (clauses_read (vec_items x.formula));
-  proof_is = q;
-  right = r.0;
-  empty = r.1;
-}
-says f p x (Fails n) e q r = tt
-says f p x NoEmptyClause e q r = tt
+module _ (f p : List ℕ) (x : Input) (e : text_read Formula f ≡ Some (map step_of (vec_items x.formula))) (q : text_read Proof p ≡ Some (map step_of (vec_items x.steps))) where
+  read_holds : (b : Bool) → (holds (formula_of x) (steps_of x) ≡ true) × (has_empty (steps_of x) ≡ b) → Holds f p b
+  read_holds b r = record {
+    clauses = formula_of x;
+    steps = steps_of x;
+    formula_is = ap (option_map (map clause_in)) e ∙ ap Some (clauses_read (vec_items x.formula));
+    proof_is = q;
+    right = r.0;
+    empty = r.1;
+  }
+
+  pub says : (v : Verdict) → Right (formula_of x) (steps_of x) v → Says f p v
+  says Verified r = read_holds true r
+  says (Fails n) r = tt
+  says NoEmptyClause r = read_holds false r

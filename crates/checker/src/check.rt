@@ -1,7 +1,7 @@
 // The check of a proof, step by step. `check_steps` promises of `Verified` that all steps hold, as the
-// definition has it, and that one of them adds the empty clause.
+// definition has it, and that one of them adds the empty clause; of `NoEmptyClause` that all hold and none does.
 ghost use Rattle.std.specs.Prelude.{◌≡◌, ◌+◌, ◌<◌, ◌≤◌, true, false, List, [], ◌∷◌, ◌++◌, length, IfOk, vec_len, OnOk};
-ghost use Rattle.formula.specs.Logic.{Clause, adds, without, has_empty};
+ghost use Rattle.formula.specs.Logic.{Clause, without, holds, has_empty};
 ghost use Rattle.checker.specs.Input.{step_of, formula_of, steps_of, rows_of};
 ghost use Rattle.checker.specs.Going.{Fewer, Going};
 ghost use Rattle.checker.specs.Standing.{dropped};
@@ -42,7 +42,7 @@ fn literal_count(steps: &[ProofStep]) -> usize {
 }
 
 fn is_empty_clause(step: &ProofStep) -> bool
-    ensures { result ≡ true → step_of step.now ≡ adds [] }
+    ensures { result ≡ has_empty (step_of step.now ∷ []) }
 {
     match step.action {
         Action::Add => step.clause.is_empty(),
@@ -52,7 +52,7 @@ fn is_empty_clause(step: &ProofStep) -> bool
 
 // Whether the empty clause is added.
 fn has_empty_clause(input: &Input) -> bool
-    ensures { result ≡ true → has_empty (steps_of input.now) ≡ true }
+    ensures { result ≡ has_empty (steps_of input.now) }
 {
     for step in input.steps.as_slice() {
         if is_empty_clause(step) {
@@ -147,6 +147,18 @@ impl Checker {
     }
 }
 
+// The verdict on a proof whose steps all hold.
+fn final_verdict(input: &Input) -> Verdict
+    requires { holds (formula_of input.now) (steps_of input.now) ≡ true }
+    ensures { Right (formula_of input.now) (steps_of input.now) result }
+{
+    if has_empty_clause(input) {
+        Verdict::Verified
+    } else {
+        Verdict::NoEmptyClause
+    }
+}
+
 // Whether each step of the proof follows, and one of them adds the empty clause.
 pub fn check_steps(heap: Global, input: &Input) -> Result<Verdict, AllocError>
     ensures { IfOk result (Right (formula_of input.now) (steps_of input.now)) }
@@ -157,9 +169,5 @@ pub fn check_steps(heap: Global, input: &Input) -> Result<Verdict, AllocError>
             return Ok(Verdict::Fails(input.steps[place].line));
         }
     }
-    if has_empty_clause(input) {
-        Ok(Verdict::Verified)
-    } else {
-        Ok(Verdict::NoEmptyClause)
-    }
+    Ok(final_verdict(input))
 }

@@ -16,7 +16,7 @@ pub struct Index {
     next: Vec<usize>,
 }
 
-pub fn is_active(active: &[bool], id: usize) -> bool
+pub(crate) fn is_active(active: &[bool], id: usize) -> bool
     ensures { result ≡ slice_index_or active.now id false }
 {
     if id < active.len() { active[id] } else { false }
@@ -68,7 +68,7 @@ fn hash(clause: &[u64]) -> u64 {
 
 impl Index {
     // An index of no clauses, made for so many.
-    pub fn new(heap: Global, count: usize) -> Result<Index, AllocError> {
+    pub(crate) fn new(heap: Global, count: usize) -> Result<Index, AllocError> {
         let heads = vec![in heap; 0; count | 1]?;
         Ok(Index {
             heads,
@@ -86,7 +86,7 @@ impl Index {
     }
 
     // The clause that comes next, by number.
-    pub fn push(&mut self, clause: &[u64]) -> Result<(), AllocError> {
+    pub(crate) fn push(&mut self, clause: &[u64]) -> Result<(), AllocError> {
         let bucket = self.bucket(clause);
         let id = self.next.len();
         if bucket < self.heads.len() {
@@ -115,7 +115,7 @@ impl Index {
     }
 
     // An active clause with these literals, by the index, and if that has none by a look at each.
-    pub fn find_copy(&self, input: &Input, active: &[bool], clause: &[u64]) -> Option<usize>
+    pub(crate) fn find_copy(&self, input: &Input, active: &[bool], clause: &[u64]) -> Option<usize>
         ensures { Found (rows_of input.now) active.now clause.now result }
     {
         match self.lookup(input, active, clause) {

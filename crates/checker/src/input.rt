@@ -25,7 +25,7 @@ pub struct Input {
 
 impl Input {
     // The literals of a clause; none past the last.
-    pub fn row(&self, id: usize) -> &[u64]
+    pub(crate) fn row(&self, id: usize) -> &[u64]
         ensures { result.now ≡ slice_index_or (rows_of self.now) id [] }
     {
         let count = self.formula.len();

@@ -1,6 +1,6 @@
 // The bytes of a formula or a proof, one at a time: numbers, blanks, comments, the header and `d`.
 // Each function promises just what its definition says of a byte.
-ghost use Rattle.std.specs.Prelude.{◌≡◌, ◌+◌, ◌-◌, ◌*◌, ◌<◌, ◌&&◌};
+ghost use Rattle.std.specs.Prelude.{◌≡◌, ◌+◌, ◌-◌, ◌*◌, ◌&&◌};
 ghost use Rattle.checker.specs.Lexing.{is_digit, is_blank, heads, header_end, header_next, longer, ended, between, line_start, in_number, lexed};
 
 // The line `p cnf VARIABLES CLAUSES`, by what was read of it.
@@ -208,7 +208,7 @@ fn next_in_line(byte: u8) -> Option<(Lexer, Token)>
 }
 
 // The next byte; none if it can't stand there.
-pub fn next(lexer: Lexer, byte: u8) -> Option<(Lexer, Token)>
+pub(crate) fn next(lexer: Lexer, byte: u8) -> Option<(Lexer, Token)>
     ensures { result ≡ lexed lexer byte }
 {
     match lexer {

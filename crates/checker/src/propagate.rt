@@ -40,12 +40,12 @@ fn visit(
     if !is_active(active, id) {
         return Ok(Outcome::Gone);
     }
-    if trail.is_true(second) {
-        return Ok(Outcome::Stays);
-    }
     let clause = input.row(id);
     if clause.is_empty() {
         return Ok(Outcome::Conflict);
+    }
+    if trail.is_true(second) {
+        return Ok(Outcome::Stays);
     }
     if let Some(lit) = trail.find_open(clause, second) {
         return Ok(Outcome::Moves(lit));
@@ -125,7 +125,7 @@ fn propagate(
 }
 
 // Whether the clause follows by propagation, in a new round.
-pub fn follows(
+pub(crate) fn follows(
     input: &Input,
     active: &[bool],
     trail: &mut Trail,

@@ -23,7 +23,7 @@ fn second_literal(clause: &[u64], first: u64) -> Option<u64> {
 
 impl Watches {
     // No watches, for so many literals.
-    pub fn new(heap: Global, count: usize) -> Result<Watches, AllocError> {
+    pub(crate) fn new(heap: Global, count: usize) -> Result<Watches, AllocError> {
         let mut lists = Vec::new(heap);
         for _i in 0..count {
             lists.push(Vec::new(heap))?;
@@ -43,7 +43,7 @@ impl Watches {
     }
 
     // The clause that comes next, by number.
-    pub fn push(&mut self, clause: &[u64]) -> Result<(), AllocError> {
+    pub(crate) fn push(&mut self, clause: &[u64]) -> Result<(), AllocError> {
         let id = self.pairs.len();
         let first = clause.first().copied().unwrap_or(0);
         match second_literal(clause, first) {
@@ -61,12 +61,12 @@ impl Watches {
     }
 
     // A clause that has no watches because it is not added.
-    pub fn skip(&mut self) -> Result<(), AllocError> {
+    pub(crate) fn skip(&mut self) -> Result<(), AllocError> {
         self.pairs.push(0)?;
         Ok(())
     }
 
-    pub fn count(&self, lit: u64) -> usize {
+    pub(crate) fn count(&self, lit: u64) -> usize {
         match self.lists.get(lit as usize) {
             Some(list) => list.len(),
             None => 0,
@@ -74,7 +74,7 @@ impl Watches {
     }
 
     // The clause at a place among those that watch a literal.
-    pub fn at(&self, lit: u64, place: usize) -> Option<usize> {
+    pub(crate) fn at(&self, lit: u64, place: usize) -> Option<usize> {
         match self.lists.get(lit as usize) {
             Some(list) => list.get(place).copied(),
             None => None,
@@ -82,11 +82,11 @@ impl Watches {
     }
 
     // The literal that a clause watches beside this one.
-    pub fn other(&self, id: usize, lit: u64) -> u64 {
+    pub(crate) fn other(&self, id: usize, lit: u64) -> u64 {
         self.pairs.get(id).copied().unwrap_or(0) ^ lit
     }
 
-    pub fn remove(&mut self, lit: u64, place: usize) {
+    pub(crate) fn remove(&mut self, lit: u64, place: usize) {
         if let Some(list) = self.lists.get_mut(lit as usize) {
             if place < list.len() {
                 let _ = list.swap_remove(place);
@@ -95,7 +95,7 @@ impl Watches {
     }
 
     // The clause at a place watches another literal from now on.
-    pub fn move_to(
+    pub(crate) fn move_to(
         &mut self,
         id: usize,
         from: u64,
@@ -110,11 +110,11 @@ impl Watches {
     }
 
     // The clauses with fewer than two different literals.
-    pub fn short_at(&self, place: usize) -> Option<usize> {
+    pub(crate) fn short_at(&self, place: usize) -> Option<usize> {
         self.short.get(place).copied()
     }
 
-    pub fn short_count(&self) -> usize {
+    pub(crate) fn short_count(&self) -> usize {
         self.short.len()
     }
 }

@@ -131,7 +131,7 @@ fn begins_header(row: &[u8]) -> bool
     row.len() >= 2 && row[0] == b'p' && row[1] == SPACE
 }
 
-pub fn fault_at(number: u64, line: u64) -> Fault
+pub(crate) fn fault_at(number: u64, line: u64) -> Fault
     ensures { result ≡ fault_at number line }
 {
     Fault {
@@ -168,7 +168,7 @@ fn read_words(words: &[u8], line: u64) -> Result<Promise, Fault>
 }
 
 // The whole line, without its end.
-pub fn read_header(row: &[u8], line: u64) -> Result<Promise, Fault>
+pub(crate) fn read_header(row: &[u8], line: u64) -> Result<Promise, Fault>
     ensures { result ≡ heading_read row.now line }
 {
     if !begins_header(row) {

@@ -58,7 +58,7 @@ pub struct Scan {
 }
 
 // Before the first byte.
-pub fn first_scan() -> Scan
+pub(crate) fn first_scan() -> Scan
     ensures { result ≡ first_scan }
 {
     Scan {
@@ -159,7 +159,7 @@ fn add_literal(token: Token, tally: Tally, table: &mut [u64], start: u64) -> Tal
 }
 
 // The number that is read, if there is one, is done: 0 ends the clause.
-pub fn finish_number(token: Token, tally: Tally, table: &mut [u64], start: u64) -> Tally
+pub(crate) fn finish_number(token: Token, tally: Tally, table: &mut [u64], start: u64) -> Tally
     requires number { token.number ≤ 16384 }
     requires counts { tally.clauses + tally.literals + tally.part < 2 ^ 63 }
     ensures tally { result ≡ tally_done token tally }
@@ -176,7 +176,7 @@ pub fn finish_number(token: Token, tally: Tally, table: &mut [u64], start: u64) 
 }
 
 // The last bytes before `i`.
-pub fn row_before(bytes: &[u8], i: usize, width: u64) -> &[u8]
+pub(crate) fn row_before(bytes: &[u8], i: usize, width: u64) -> &[u8]
     requires { (width ≤ i) × (i ≤ length bytes.now) }
     ensures { result.now ≡ row_here bytes.now i width }
 {
@@ -366,7 +366,7 @@ fn is_separator(b: u8) -> bool
 }
 
 // The byte at `i`, of which all before are read.
-pub fn read_byte(
+pub(crate) fn read_byte(
     scan: Scan,
     bytes: &[u8],
     i: usize,

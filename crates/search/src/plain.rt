@@ -1,11 +1,12 @@
-// Plain search: variables in order, false first, back one level at a time.
-// A turn is a `look` and then an `act`; each promises just what its definition says, on any table.
-ghost use Rattle.std.specs.Prelude.{◌≡◌, ◌+◌, ◌-◌, ◌*◌, ◌<◌, ◌≤◌, min, not, ltb, length, ◌==◌, nat_lt, slice_index, slice_set};
+// Plain search: variables in order, false first, back one level at a time, and no other value for one that had no part in a conflict.
+// A turn is a `look`, an `act`, and a `see` for each literal to blame; each promises just what its definition says, on any table.
+ghost use Rattle.std.specs.Prelude.{◌≡◌, ◌+◌, ◌-◌, ◌*◌, ◌/◌, ◌<◌, ◌≤◌, min, not, ltb, length, Some, None, ◌==◌, nat_lt, slice_index, slice_set};
 ghost use Rattle.formula.specs.Arena.{clauses_in};
 ghost use Rattle.formula.specs.Logic.{pick, every, none_of};
 ghost use Rattle.search.specs.Ends.{SearchEnds};
-ghost use Rattle.search.specs.Plain.{depth_of, goes_back, value_of, fresh, lit_false, some_false, first_failed, look, act, marked, model_lit};
+ghost use Rattle.search.specs.Plain.{depth_of, last_var, goes_back, value_of, seen, fresh, lit_false, first_false, first_failed, false_lit, some_seen, look_back, look, act, marked, model_lit};
 
+use formula::clause::Place;
 use formula::literal::{is_negated, variable};
 use formula::table::{get, put};
 
@@ -16,6 +17,8 @@ const GOING_BACK: u64 = 1;
 
 const VALUES: u64 = 256;
 
+const SEEN: u64 = 16640;
+
 const MOST_VARS: u64 = 16384;
 
 // The two values.
@@ -23,18 +26,22 @@ const FALSE: u64 = 1;
 
 const TRUE: u64 = 2;
 
-// The mark on an assumption of the core.
+// The mark on an assumption of the core, and on a variable that is seen.
 const MARKED: u64 = 1;
 
 // What there is to do.
 #[derive(Clone, Copy)]
 pub enum Finding {
-    // Both values of the first variable have failed.
+    // No variable is left whose other value could be tried.
     Exhausted,
-    // The last value has failed.
+    // The last value had no part in what failed, or there is nothing to learn from it.
     Back,
-    // A clause is false.
-    Conflict,
+    // The last value, false, has failed.
+    Flip,
+    // Both values of the last variable have failed: a clause is learned.
+    Learned,
+    // The clause at this place is false.
+    Conflict(Place),
     // No clause is, but the assumption at this place.
     Failed(u64),
     // A variable has no value yet.
@@ -55,6 +62,13 @@ fn depth_of(work: &[u64]) -> u64
     get(work, DEPTH).min(MOST_VARS)
 }
 
+// The variable that got its value last.
+pub fn last_var(work: &[u64]) -> u64
+    ensures { result ≡ last_var work.now }
+{
+    depth_of(work).saturating_sub(1)
+}
+
 fn is_going_back(work: &[u64]) -> bool
     ensures { result ≡ goes_back work.now }
 {
@@ -68,11 +82,18 @@ fn has_value_false(work: &[u64], var: u64) -> bool
     get(work, VALUES + var) == FALSE
 }
 
-fn put_value(work: &mut [u64], var: u64, value: u64)
-    requires { var ≤ 16384 }
-    ensures { work.new ≡ slice_set work.old (256 + var) value }
+fn is_seen(work: &[u64], var: u64) -> bool
+    requires { var < 16384 }
+    ensures { result ≡ seen work.now var }
 {
-    put(work, VALUES + var, value)
+    get(work, SEEN + var) == MARKED
+}
+
+// The literal's variable had a part in what failed.
+pub fn see(work: &mut [u64], lit: u64)
+    ensures { work.new ≡ slice_set work.old (16640 + lit / 2) 1 }
+{
+    put(work, SEEN + variable(lit), MARKED)
 }
 
 // No variable has a value.
@@ -122,23 +143,34 @@ fn clause_end(arena: &[u64], start: usize) -> usize
     start + 1 + (arena[start] as usize).min(rest)
 }
 
-// Whether all literals of one of the clauses are false. Past the arena's end a clause is empty.
-fn some_false(arena: &[u64], count: u64, work: &[u64], depth: u64) -> bool
+// A conflict with the clause whose length stands at `start`.
+fn conflict_at(start: usize, end: usize) -> Finding
+    requires { start < end }
+    ensures { result ≡ Finding.Conflict (record { start = start + 1; len = end - (start + 1) }) }
+{
+    Finding::Conflict(Place {
+        start: (start + 1) as u64,
+        len: (end - (start + 1)) as u64,
+    })
+}
+
+// The place of the first clause whose literals are all false, or what is found otherwise. Past the arena's end a clause is empty.
+fn first_false(arena: &[u64], count: u64, work: &[u64], depth: u64, otherwise: Finding) -> Finding
     requires { depth ≤ 16384 }
-    ensures { result ≡ some_false depth work.now (clauses_in count arena.now) }
+    ensures { result ≡ first_false depth work.now 0 (clauses_in count arena.now) otherwise }
 {
     let mut start: usize = 0;
     for _i in 0..count {
         if start >= arena.len() {
-            return true;
+            return conflict_at(start, start + 1);
         }
         let end = clause_end(arena, start);
         if all_false(work, depth, &arena[start + 1..end]) {
-            return true;
+            return conflict_at(start, end);
         }
         start = end;
     }
-    false
+    otherwise
 }
 
 // The first assumption that is false, or what is found otherwise.
@@ -165,6 +197,37 @@ fn open_or_full(depth: u64, num_vars: u64) -> Finding
     }
 }
 
+// Whether a variable below `var` is seen.
+fn some_seen(work: &[u64], var: u64) -> bool
+    requires { var ≤ 16384 }
+    ensures { result ≡ some_seen work.now var }
+{
+    for below in 0..var {
+        if is_seen(work, below) {
+            return true;
+        }
+    }
+    false
+}
+
+// What there is to do on the way back, by the variable that got its value last.
+fn look_back(work: &[u64], last: u64) -> Finding
+    requires { last < 16384 }
+    ensures { result ≡ look_back work.now last }
+{
+    if !is_seen(work, last) {
+        return Finding::Back;
+    }
+    if has_value_false(work, last) {
+        return Finding::Flip;
+    }
+    if some_seen(work, last) {
+        Finding::Learned
+    } else {
+        Finding::Back
+    }
+}
+
 // What there is to do about `count` clauses and the assumptions.
 pub fn look(arena: &[u64], count: u64, assumptions: &[u64], num_vars: u64, work: &[u64]) -> Finding
     ensures { result ≡ look (clauses_in count arena.now) assumptions.now num_vars work.now }
@@ -174,13 +237,11 @@ pub fn look(arena: &[u64], count: u64, assumptions: &[u64], num_vars: u64, work:
         return if depth == 0 {
             Finding::Exhausted
         } else {
-            Finding::Back
+            look_back(work, depth - 1)
         };
     }
-    if some_false(arena, count, work, depth) {
-        return Finding::Conflict;
-    }
-    first_failed(assumptions, work, depth, open_or_full(depth, num_vars))
+    let otherwise = first_failed(assumptions, work, depth, open_or_full(depth, num_vars));
+    first_false(arena, count, work, depth, otherwise)
 }
 
 // The way back begins.
@@ -190,51 +251,50 @@ fn turn_back(work: &mut [u64])
     put(work, GOING_BACK, 1);
 }
 
+// A variable's value, which has had no part in a conflict yet.
+fn give_value(work: &mut [u64], var: u64, value: u64)
+    requires { var ≤ 16384 }
+    ensures { work.new ≡ slice_set (slice_set work.old (256 + var) value) (16640 + var) 0 }
+{
+    put(work, VALUES + var, value);
+    put(work, SEEN + var, 0);
+}
+
 // A variable that was false becomes true, and the way back is over.
 fn make_true(work: &mut [u64], var: u64)
     requires { var < 16384 }
-    ensures { work.new ≡ slice_set (slice_set work.old (256 + var) 2) 1 0 }
+    ensures { work.new ≡ slice_set (slice_set (slice_set work.old (256 + var) 2) (16640 + var) 0) 1 0 }
 {
-    put_value(work, var, TRUE);
+    give_value(work, var, TRUE);
     put(work, GOING_BACK, 0);
 }
 
 // The next variable becomes false, one level deeper.
 fn make_false(work: &mut [u64], var: u64)
     requires { var ≤ 16384 }
-    ensures { work.new ≡ slice_set (slice_set work.old (256 + var) 1) 0 (var + 1) }
+    ensures { work.new ≡ slice_set (slice_set (slice_set work.old (256 + var) 1) (16640 + var) 0) 0 (var + 1) }
 {
-    put_value(work, var, FALSE);
+    give_value(work, var, FALSE);
     put(work, DEPTH, var + 1);
 }
 
-// The variable, true until now, loses its value.
+// The variable loses its value.
 fn unset(work: &mut [u64], var: u64)
     ensures { work.new ≡ slice_set work.old 0 var }
 {
     put(work, DEPTH, var);
 }
 
-// From false to true, or one level up.
-fn go_back(work: &mut [u64])
-    ensures { work.new ≡ act work.old Finding.Back }
-{
-    let last = depth_of(work).saturating_sub(1);
-    if has_value_false(work, last) {
-        make_true(work, last);
-    } else {
-        unset(work, last);
-    }
-}
-
 // What is done about a finding.
 pub fn act(work: &mut [u64], finding: Finding)
     ensures { work.new ≡ act work.old finding }
 {
+    let last = last_var(work);
     match finding {
         Finding::Exhausted | Finding::Full => {}
-        Finding::Back => go_back(work),
-        Finding::Conflict | Finding::Failed(_) => turn_back(work),
+        Finding::Back | Finding::Learned => unset(work, last),
+        Finding::Flip => make_true(work, last),
+        Finding::Conflict(_) | Finding::Failed(_) => turn_back(work),
         Finding::Open => {
             let depth = depth_of(work);
             make_false(work, depth);
@@ -257,6 +317,17 @@ pub fn model_literal(work: &[u64], var: u64) -> u64
         return 0;
     }
     literal(var, has_value_false(work, var))
+}
+
+// The literal of a variable that is false under its value, if the variable is seen: a part of what is learned.
+pub fn learned_literal(work: &[u64], var: u64) -> Option<u64>
+    ensures { result ≡ pick (seen work.now (min var 16383)) (Some (false_lit work.now (min var 16383))) None }
+{
+    let var = var.min(MOST_VARS - 1);
+    if !is_seen(work, var) {
+        return None;
+    }
+    Some(literal(var, !has_value_false(work, var)))
 }
 
 fn is_marked(mark: u64) -> bool

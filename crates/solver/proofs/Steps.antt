@@ -11,14 +11,14 @@ use Rattle.dimacs.specs.Scan.{table_after, outcome_of}
 use Rattle.dimacs.specs.declared.read.Outcome.{Outcome}
 use Rattle.dimacs.specs.declared.read.Outcome.TheVariants.{Formula, Wrong}
 use Rattle.search.specs.declared.plain.Finding.{Finding}
-use Rattle.search.specs.declared.plain.Finding.TheVariants.{Exhausted, Back, Conflict, Failed, Open, Full}
+use Rattle.search.specs.declared.plain.Finding.TheVariants.{Exhausted, Back, Flip, Learned, Conflict, Failed, Open, Full}
 use Rattle.search.specs.Plain.{look}
 use Rattle.solver.specs.declared.Told.{Told}
 use Rattle.solver.specs.declared.Told.TheVariants.{No}
 use Rattle.solver.specs.House.{new_var, add, assume, solve, model_of, failed_core, read_file, print_it, prove}
 use Rattle.solver.specs.Promise.{Event, said, next, Act, shows, writes, done, refused}
 use Rattle.solver.specs.State.{State, view, flat, zeros, with_arena, num_vars, num_assumptions, arena_len, verdict, phase, cursor, lits_left, clauses_left, pending, ending, formula, assumed}
-use Rattle.solver.specs.Machine.{Turn, turn, on_new_var, on_add, on_assume, on_solve, on_model, on_core, on_print, on_read, on_outcome, clause_fits, counts_fit, file_fits, on_command, on_next, searched, searching, showing, showing_core, printing, telling, on_event, machine_step}
+use Rattle.solver.specs.Machine.{Turn, on_new_var, on_add, on_assume, on_solve, on_model, on_core, on_print, on_read, on_outcome, on_prove, proves, too_late, untouched, clause_fits, counts_fit, file_fits, on_command, on_next, searched, showing, showing_core, printing, telling, on_event, machine_step}
 use Rattle.solver.specs.Entry.{own, event_of, ActTold, StepSays, step_fits}
 use Rattle.solver.specs.Coded.{Sized, told, written_to}
 use Rattle.solver.proofs.MemoryMap.{flat_view}
@@ -117,11 +117,11 @@ module _ (s : State) (row bytes : List ℕ) where
   unfolding event_of on_event on_command
   kind_7 = refl
 
-  kind_8 : on_event s (event_of 8 row bytes) ≡ turn s (refused 2)
+  pub kind_8 : on_event s (event_of 8 row bytes) ≡ on_prove s
   unfolding event_of on_event on_command
   kind_8 = refl
 
-  pub kind_9 : on_event s (event_of 9 row bytes) ≡ on_next s
+  kind_9 : on_event s (event_of 9 row bytes) ≡ on_next s
   unfolding event_of on_event on_command
   kind_9 = refl
 
@@ -132,13 +132,13 @@ pick_quiet false x y p q = q
 
 module _ (s : State) where
   pub new_var_quiet : quiet (on_new_var s).act ≡ true
-  new_var_quiet = pick_quiet (ltb (num_vars s) 16384) _ _ refl refl
+  new_var_quiet = pick_quiet (ltb (num_vars s) 16384) _ _ (pick_quiet (too_late s) _ _ refl refl) refl
 
   pub add_quiet : (c : Clause) → quiet (on_add s c).act ≡ true
-  add_quiet c = pick_quiet (lits_fit c && leb (length c) 1024) _ _ (pick_quiet (clause_fits s c) _ _ refl refl) refl
+  add_quiet c = pick_quiet (lits_fit c && leb (length c) 1024) _ _ (pick_quiet (clause_fits s c) _ _ (pick_quiet (too_late s) _ _ refl refl) refl) refl
 
   pub assume_quiet : (ls : List ℕ) → quiet (on_assume s ls).act ≡ true
-  assume_quiet ls = pick_quiet (lits_fit ls && leb (length ls) 1024) _ _ refl refl
+  assume_quiet ls = pick_quiet (lits_fit ls && leb (length ls) 1024) _ _ (pick_quiet (proves s) _ _ refl refl) refl
 
   pub solve_quiet : quiet (on_solve s).act ≡ true
   unfolding none_of
@@ -148,17 +148,8 @@ module _ (s : State) where
   unfolding none_of
   model_quiet = pick_quiet (eqb (verdict s) 1) _ _ refl refl
 
-  searched_quiet : (f : Finding) → quiet (searched s f).act ≡ true
-  unfolding none_of
-  searched_quiet Exhausted = refl
-  searched_quiet Back = refl
-  searched_quiet Conflict = refl
-  searched_quiet (Failed i) = refl
-  searched_quiet Open = refl
-  searched_quiet Full = refl
-
-  pub searching_quiet : quiet (searching s).act ≡ true
-  searching_quiet = searched_quiet (look (formula s) (assumed s) (num_vars s) s.work)
+  pub prove_quiet : quiet (on_prove s).act ≡ true
+  prove_quiet = pick_quiet (untouched s) _ _ refl refl
 
   pub showing_quiet : quiet (showing s).act ≡ true
   showing_quiet = pick_quiet (ltb (cursor s) (num_vars s)) _ _ refl refl
@@ -186,7 +177,7 @@ module _ (s : State) where
 
 pub read_quiet : (s : State) (bytes : List ℕ) → quiet (on_read s bytes).act ≡ true
 read_quiet s bytes =
-    pick_quiet (file_fits bytes) _ _ (outcome_quiet (with_arena s (table_after s.arena (arena_len s) bytes)) (outcome_of (file_read bytes))) refl
+    pick_quiet (too_late s) _ _ refl (pick_quiet (file_fits bytes) _ _ (outcome_quiet (with_arena s (table_after s.arena (arena_len s) bytes)) (outcome_of (file_read bytes))) refl)
 
 -- a refusal has a number below 1,000, whatever is said
 abbrev pub fair : Act → Bool
@@ -207,10 +198,21 @@ pick_fair false x y p q = q
 
 next_fair : (s : State) → fair (on_next s).act ≡ true
 next_fair s =
-    pick_fair (eqb (phase s) 1) _ _ (quiet_fair (searching s).act (searching_quiet s)) (pick_fair (eqb (phase s) 2) _ _ (quiet_fair (showing s).act (showing_quiet s))
+    pick_fair (eqb (phase s) 1) _ _ (searched_fair (look (formula s) (assumed s) (num_vars s) s.work)) (pick_fair (eqb (phase s) 2) _ _ (quiet_fair (showing s).act (showing_quiet s))
     (pick_fair (eqb (phase s) 3) _ _ (quiet_fair (showing_core s).act (showing_core_quiet s)) (pick_fair (eqb (phase s) 4) _ _ (printing_fair s)
-    (pick_fair (eqb (phase s) 5) _ _ (quiet_fair (telling s).act (telling_quiet s)) refl))))
+    (pick_fair (eqb (phase s) 5) _ _ (quiet_fair (telling s).act (telling_quiet s)) (pick_fair (eqb (phase s) 6) _ _ (pick_fair (eqb (cursor s) 0) _ _ refl refl)
+    (pick_fair (eqb (phase s) 7) _ _ refl refl))))))
   where
+    searched_fair : (f : Finding) → fair (searched s f).act ≡ true
+    searched_fair Exhausted = pick_fair (proves s) _ _ refl refl
+    searched_fair Back = refl
+    searched_fair Flip = refl
+    searched_fair Learned = pick_fair (proves s) _ _ refl refl
+    searched_fair (Conflict p) = refl
+    searched_fair (Failed i) = refl
+    searched_fair Open = refl
+    searched_fair Full = refl
+
     printing_fair : (s : State) → fair (printing s).act ≡ true
     printing_fair s = pick_fair (eqb (clauses_left s) 0) _ _ refl (pick_fair (eqb (lits_left s) 0) _ _ refl (pick_fair (eqb (lits_left s) 1) _ _ refl refl))
 
@@ -224,18 +226,20 @@ event_fair s (said model_of) = quiet_fair (on_model s).act (model_quiet s)
 event_fair s (said failed_core) = quiet_fair (on_core s).act (core_quiet s)
 event_fair s (said (read_file bs)) = quiet_fair (on_read s bs).act (read_quiet s bs)
 event_fair s (said print_it) = refl
-event_fair s (said prove) = refl
+event_fair s (said prove) = quiet_fair (on_prove s).act (prove_quiet s)
 event_fair s next = next_fair s
 
 pub own_fair : (m : List ℕ) (ev : Event) → fair (own.step m ev).act ≡ true
 unfolding own machine_step
 own_fair m ev = elim (cases_Bool (eqb (length m) 524288)) [ inl e ↦ rw e (event_fair (view m) ev) | inr e ↦ rw e refl ]
 
--- the kind that isn't known
-pub step_unknown : (m : List ℕ) (k : ℕ) (row bytes out : List ℕ) → step_fits m k row bytes out ≡ true →
-    (k ≡ 0 → ⊥) → (k ≡ 1 → ⊥) → (k ≡ 2 → ⊥) → (k ≡ 3 → ⊥) → (k ≡ 4 → ⊥) → (k ≡ 5 → ⊥) → (k ≡ 6 → ⊥) → (k ≡ 7 → ⊥) → (k ≡ 9 → ⊥) →
-    StepSays m k row bytes out (step_fits m k row bytes out) (No 2) m out
-step_unknown m k row bytes out f n₀ n₁ n₂ n₃ n₄ n₅ n₆ n₇ n₉ =
-    let h = leb-true k 9 (and_parts (leb k 9) _ (and_parts (eqb (length m) 524288) _ (sym (fits_is m k row bytes out) ∙ f)).1).0 in
-    let e : k ≡ 8 = omega arith in
-    steps m m k row bytes out out (No 2) (turn (view m) (refused 2)) f refl (ap (λ n. on_event (view m) (event_of n row bytes)) e ∙ kind_8 (view m) row bytes) refl refl refl
+-- the last kind: to go on
+pub step_goes_on : (s : State) (k : ℕ) (row bytes : List ℕ) → leb k 9 ≡ true →
+    (k ≡ 0 → ⊥) → (k ≡ 1 → ⊥) → (k ≡ 2 → ⊥) → (k ≡ 3 → ⊥) → (k ≡ 4 → ⊥) → (k ≡ 5 → ⊥) → (k ≡ 6 → ⊥) → (k ≡ 7 → ⊥) → (k ≡ 8 → ⊥) → on_event s (event_of k row bytes) ≡ on_next s
+step_goes_on s k row bytes l n₀ n₁ n₂ n₃ n₄ n₅ n₆ n₇ n₈ =
+    let h = leb-true k 9 l in
+    let e : k ≡ 9 = omega arith in
+    ap (λ n. on_event s (event_of n row bytes)) e ∙ kind_9 s row bytes
+
+pub fits_kind : (m : List ℕ) (k : ℕ) (row bytes out : List ℕ) → step_fits m k row bytes out ≡ true → leb k 9 ≡ true
+fits_kind m k row bytes out f = (and_parts (leb k 9) _ (and_parts (eqb (length m) 524288) _ (sym (fits_is m k row bytes out) ∙ f)).1).0

@@ -1,4 +1,4 @@
-// What each command does to the memory before the machine goes on by itself: new, add, assume, solve, model.
+// What each command does to the memory before the machine goes on by itself.
 // Each check hands on its value or leaves with the number of the refusal; what is refused changes nothing.
 ghost use Rattle.std.specs.Prelude.{◌≡◌, ◌+◌, ◌<◌, ◌≤◌, ◌&&◌, length, IfSome, Some, None, ◌==◌, nat_le, nat_lt};
 ghost use Rattle.formula.specs.Logic.{pick};
@@ -8,7 +8,7 @@ ghost use Rattle.dimacs.specs.Text.{row_vars, larger};
 ghost use Rattle.dimacs.specs.Statements.{lits_fit};
 ghost use Rattle.dimacs.specs.declared.read.Outcome.TheVariants.{Formula, Wrong};
 ghost use Rattle.solver.specs.State.{view, num_vars, num_clauses, arena_len, verdict};
-ghost use Rattle.solver.specs.Machine.{on_new_var, on_add, on_assume, on_solve, on_model, on_core, on_print, on_read, on_outcome, clause_fits, counts_fit};
+ghost use Rattle.solver.specs.Machine.{on_new_var, on_add, on_assume, on_solve, on_model, on_core, on_print, on_read, on_outcome, on_prove, clause_fits, counts_fit, too_late, untouched};
 ghost use Rattle.solver.specs.Coded.{Sized, WithinRoom, told, written_to};
 
 use crate::Told;
@@ -63,6 +63,14 @@ fn only_never(verdict: u64) -> u64
     if verdict == NEVER { NEVER } else { UNKNOWN }
 }
 
+// Whether a proof is written and it's solved: then the clauses stay as they are.
+fn is_too_late(m: &[u64]) -> bool
+    requires { Sized m.now }
+    ensures { result ≡ too_late (view m.now) }
+{
+    is_proving(m) && read(m, VERDICT) != UNKNOWN
+}
+
 // The number of the next variable, if there is room for one.
 fn next_var(m: &[u64]) -> Option<u64>
     requires { Sized m.now }
@@ -73,7 +81,7 @@ fn next_var(m: &[u64]) -> Option<u64>
     if vars < MAX_VARS { Some(vars) } else { None }
 }
 
-pub fn new_var(m: &mut [u64]) -> Told
+pub(crate) fn new_var(m: &mut [u64]) -> Told
     requires { Sized m.old }
     ensures after { view m.new ≡ (on_new_var (view m.old)).state }
     ensures answer { told (on_new_var (view m.old)).act ≡ result }
@@ -81,6 +89,9 @@ pub fn new_var(m: &mut [u64]) -> Told
     let Some(vars) = next_var(m) else {
         return Told::No(7);
     };
+    if is_too_late(m) {
+        return Told::No(8);
+    }
     let verdict = without_yes(read(m, VERDICT));
     write(m, NUM_VARS, vars + 1);
     write(m, VERDICT, verdict);
@@ -106,7 +117,7 @@ fn free_place(m: &[u64], clause: &[u64]) -> Option<Place>
     Some(Place { start, len })
 }
 
-pub fn add(m: &mut [u64], clause: &[u64]) -> Told
+pub(crate) fn add(m: &mut [u64], clause: &[u64]) -> Told
     requires { Sized m.old }
     ensures after { view m.new ≡ (on_add (view m.old) clause.now).state }
     ensures answer { told (on_add (view m.old) clause.now).act ≡ result }
@@ -117,6 +128,9 @@ pub fn add(m: &mut [u64], clause: &[u64]) -> Told
     let Some(place) = free_place(m, clause) else {
         return Told::No(7);
     };
+    if is_too_late(m) {
+        return Told::No(8);
+    }
     let clause_vars = larger_of(read(m, CLAUSE_VARS), vars);
     let vars = larger_of(read(m, NUM_VARS), vars);
     let clauses = read(m, NUM_CLAUSES) + 1;
@@ -138,7 +152,7 @@ fn answer_of(verdict: u64) -> u64
 }
 
 // What is known is told again; else the search begins.
-pub fn solve(m: &mut [u64]) -> Told
+pub(crate) fn solve(m: &mut [u64]) -> Told
     requires { Sized m.old }
     ensures after { view m.new ≡ (on_solve (view m.old)).state }
     ensures answer { told (on_solve (view m.old)).act ≡ result }
@@ -154,7 +168,7 @@ pub fn solve(m: &mut [u64]) -> Told
     Told::Writes(0)
 }
 
-pub fn model(m: &mut [u64]) -> Told
+pub(crate) fn model(m: &mut [u64]) -> Told
     requires { Sized m.old }
     ensures after { view m.new ≡ (on_model (view m.old)).state }
     ensures answer { told (on_model (view m.old)).act ≡ result }
@@ -167,7 +181,7 @@ pub fn model(m: &mut [u64]) -> Told
     Told::Writes(0)
 }
 
-pub fn assume(m: &mut [u64], row: &[u64]) -> Told
+pub(crate) fn assume(m: &mut [u64], row: &[u64]) -> Told
     requires { Sized m.old }
     ensures after { view m.new ≡ (on_assume (view m.old) row.now).state }
     ensures answer { told (on_assume (view m.old) row.now).act ≡ result }
@@ -175,6 +189,9 @@ pub fn assume(m: &mut [u64], row: &[u64]) -> Told
     let Some(vars) = checked_row(row) else {
         return Told::No(6);
     };
+    if is_proving(m) {
+        return Told::No(8);
+    }
     let vars = larger_of(read(m, NUM_VARS), vars);
     let verdict = only_never(read(m, VERDICT));
     write_assumptions(m, row);
@@ -186,7 +203,7 @@ pub fn assume(m: &mut [u64], row: &[u64]) -> Told
 }
 
 // A core that isn't empty is shown an assumption at a time; of an empty one there is nothing to show.
-pub fn core(m: &mut [u64]) -> Told
+pub(crate) fn core(m: &mut [u64]) -> Told
     requires { Sized m.old }
     ensures after { view m.new ≡ (on_core (view m.old)).state }
     ensures answer { told (on_core (view m.old)).act ≡ result }
@@ -206,7 +223,7 @@ pub fn core(m: &mut [u64]) -> Told
 }
 
 // The header; the clauses come as it goes on.
-pub fn print(m: &mut [u64], out: &mut [u8]) -> Told
+pub(crate) fn print(m: &mut [u64], out: &mut [u8]) -> Told
     requires { (Sized m.old) × (128 ≤ length out.old) }
     ensures after { view m.new ≡ (on_print (view m.old)).state }
     ensures answer { told (on_print (view m.old)).act ≡ result }
@@ -222,11 +239,14 @@ pub fn print(m: &mut [u64], out: &mut [u8]) -> Told
 }
 
 // A file's clauses are added, all or none.
-pub fn read_in(m: &mut [u64], bytes: &[u8]) -> Told
+pub(crate) fn read_in(m: &mut [u64], bytes: &[u8]) -> Told
     requires { (Sized m.old) × (length bytes.now ≤ 1048576) }
     ensures after { view m.new ≡ (on_read (view m.old) bytes.now).state }
     ensures answer { told (on_read (view m.old) bytes.now).act ≡ result }
 {
+    if is_too_late(m) {
+        return Told::No(8);
+    }
     let start = read(m, ARENA_LEN);
     match read_file(m, bytes, start) {
         Outcome::Formula(counts) => take_clauses(m, counts),
@@ -296,4 +316,28 @@ fn take_clauses(m: &mut [u64], counts: Counts) -> Told
     write(m, ENDING, 0);
     write(m, PHASE, TELLING);
     Told::Shows(clause_vars)
+}
+
+// Whether there is nothing yet that a proof would have to speak of.
+fn is_untouched(m: &[u64]) -> bool
+    requires { Sized m.now }
+    ensures { result ≡ untouched (view m.now) }
+{
+    (read(m, NUM_CLAUSES) == 0 && read(m, NUM_ASSUMPTIONS) == 0)
+        && (read(m, NUM_VARS) == 0 && !is_proving(m))
+}
+
+// From now on each solving writes a proof.
+pub(crate) fn prove(m: &mut [u64]) -> Told
+    requires { Sized m.old }
+    ensures after { view m.new ≡ (on_prove (view m.old)).state }
+    ensures answer { told (on_prove (view m.old)).act ≡ result }
+{
+    if !is_untouched(m) {
+        return Told::No(8);
+    }
+    write(m, PROVING, 1);
+    write(m, VERDICT, UNKNOWN);
+    write(m, PHASE, RESTING);
+    Told::Done
 }

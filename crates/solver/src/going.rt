@@ -1,31 +1,34 @@
-// What the machine does when it is told to go on: a turn of the search, or the next literal of the model.
+// What the machine does when it is told to go on: a turn of the search, or the next piece of what is shown or written.
 // Each function promises the state that the machine's definition of it has.
-ghost use Rattle.std.specs.Prelude.{◌≡◌, ◌≤◌, min, length};
+ghost use Rattle.std.specs.Prelude.{◌≡◌, ◌≤◌, min, length, take, drop};
 ghost use Rattle.std.proofs.lemmas.List.Edits.{sets};
-ghost use Rattle.search.specs.Plain.{model_row};
-ghost use Rattle.solver.specs.State.{view, num_vars, with_model};
-ghost use Rattle.solver.specs.Machine.{on_next, searching, showing, showing_core, printing, telling, answered_no, answered_yes, with_turn};
+ghost use Rattle.search.specs.Plain.{see, model_row};
+ghost use Rattle.solver.specs.State.{view, num_vars, with_model, with_work};
+ghost use Rattle.solver.specs.Machine.{on_next, searching, learns, writing, ended_no, showing, showing_core, printing, telling, answered_no, answered_yes, with_turn};
 ghost use Rattle.solver.specs.Coded.{Sized, told, written_to};
 
 use crate::Told;
 use crate::limits::*;
 use crate::tables::*;
 use dimacs::write::{put_end, put_literal};
+use formula::clause::{Place, literals_at};
 use formula::table::get;
-use search::plain::{Finding, look, model_literal, some_marked};
+use search::plain::{Finding, last_var, learned_literal, look, model_literal, some_marked};
 
-pub fn go_on(m: &mut [u64], out: &mut [u8]) -> Told
+pub(crate) fn go_on(m: &mut [u64], out: &mut [u8]) -> Told
     requires { (Sized m.old) × (128 ≤ length out.old) }
     ensures after { view m.new ≡ (on_next (view m.old)).state }
     ensures answer { told (on_next (view m.old)).act ≡ result }
     ensures bytes { written_to (on_next (view m.old)).act out.old ≡ out.new }
 {
     match read(m, PHASE) {
-        SEARCHING => search_on(m),
+        SEARCHING => search_on(m, out),
         SHOWING => show_literal(m),
         SHOWING_CORE => show_core(m),
         PRINTING => print_on(m, out),
         TELLING => tell_on(m),
+        WRITING => write_learned(m, out),
+        ANSWERING => answer_no(m),
         _ => Told::Done,
     }
 }
@@ -121,10 +124,11 @@ fn tell_on(m: &mut [u64]) -> Told
 }
 
 // A turn of the search, and the answer if it is the last.
-fn search_on(m: &mut [u64]) -> Told
-    requires { Sized m.old }
+fn search_on(m: &mut [u64], out: &mut [u8]) -> Told
+    requires { (Sized m.old) × (128 ≤ length out.old) }
     ensures after { view m.new ≡ (searching (view m.old)).state }
     ensures answer { told (searching (view m.old)).act ≡ result }
+    ensures bytes { written_to (searching (view m.old)).act out.old ≡ out.new }
 {
     let finding = look(
         arena(m),
@@ -134,7 +138,8 @@ fn search_on(m: &mut [u64]) -> Told
         work(m),
     );
     match finding {
-        Finding::Exhausted => answer_no(m),
+        Finding::Exhausted => end_search(m, out),
+        Finding::Learned => learn(m),
         Finding::Full => answer_yes(m),
         _ => {
             take_turn(m, finding);
@@ -143,15 +148,83 @@ fn search_on(m: &mut [u64]) -> Told
     }
 }
 
-// The values change, and an assumption that failed is marked for the core.
+// The values change, what is to blame is seen, and an assumption that failed is marked for the core.
 fn take_turn(m: &mut [u64], finding: Finding)
     requires { Sized m.old }
     ensures { view m.new ≡ with_turn (view m.old) finding }
 {
     act_on_work(m, finding);
-    if let Finding::Failed(place) = finding {
-        mark_core(m, place);
+    match finding {
+        Finding::Conflict(place) => see_clause(m, place),
+        Finding::Failed(place) => {
+            let lit = get(assumed_literals(m), place);
+            see_literal(m, lit);
+            mark_core(m, place);
+        }
+        _ => {}
     }
+}
+
+fn see_clause(m: &mut [u64], place: Place)
+    requires { Sized m.old }
+    ensures { view m.new ≡ with_work (view m.old) (see (view m.old).work (take place.len (drop place.start (view m.old).arena))) }
+{
+    let len = literals_at(arena(m), place).len();
+    for i in 0..len {
+        let lit = get(literals_at(arena(m), place), i as u64);
+        see_literal(m, lit);
+    }
+}
+
+// The turn is taken at once if no proof is written, else when the clause is.
+fn learn(m: &mut [u64]) -> Told
+    requires { Sized m.old }
+    ensures after { view m.new ≡ (learns (view m.old)).state }
+    ensures answer { told (learns (view m.old)).act ≡ result }
+{
+    if !is_proving(m) {
+        take_turn(m, Finding::Learned);
+        return Told::Writes(0);
+    }
+    let last = last_var(work(m));
+    write(m, CURSOR, last);
+    write(m, PHASE, WRITING);
+    Told::Writes(0)
+}
+
+// The next variable of a learned clause, and then the turn.
+fn write_learned(m: &mut [u64], out: &mut [u8]) -> Told
+    requires { (Sized m.old) × (128 ≤ length out.old) }
+    ensures after { view m.new ≡ (writing (view m.old)).state }
+    ensures answer { told (writing (view m.old)).act ≡ result }
+    ensures bytes { written_to (writing (view m.old)).act out.old ≡ out.new }
+{
+    let left = read(m, CURSOR);
+    if left == 0 {
+        take_turn(m, Finding::Learned);
+        write(m, PHASE, SEARCHING);
+        return Told::Writes(put_end(out));
+    }
+    let part = learned_literal(work(m), left - 1);
+    write(m, CURSOR, left - 1);
+    match part {
+        Some(lit) => Told::Writes(put_literal(lit, out)),
+        None => Told::Writes(0),
+    }
+}
+
+// A proof ends with the empty clause, before the answer.
+fn end_search(m: &mut [u64], out: &mut [u8]) -> Told
+    requires { (Sized m.old) × (128 ≤ length out.old) }
+    ensures after { view m.new ≡ (ended_no (view m.old)).state }
+    ensures answer { told (ended_no (view m.old)).act ≡ result }
+    ensures bytes { written_to (ended_no (view m.old)).act out.old ≡ out.new }
+{
+    if !is_proving(m) {
+        return answer_no(m);
+    }
+    write(m, PHASE, ANSWERING);
+    Told::Writes(put_end(out))
 }
 
 // A no holds whatever is assumed if no assumption had a part in it.

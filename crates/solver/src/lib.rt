@@ -2,7 +2,7 @@
 #![tactic(auto)]
 
 ghost use Rattle.std.specs.Prelude.{◌≡◌, ◌≤◌, length, replicate};
-ghost use Rattle.solver.specs.Known.{all_but_proofs};
+ghost use Rattle.solver.specs.House.{everything};
 ghost use Rattle.solver.specs.Promise.{Whole};
 ghost use Rattle.solver.specs.PrintBack.{PrintsBack};
 ghost use Rattle.solver.specs.Entry.{own, TermSays, term_fits, smaller, term, StepSays, step_fits};
@@ -54,10 +54,17 @@ pub fn smaller_of(a: u64, b: u64) -> u64
 pub fn luby(n: u64) -> Reply
     ensures { TermSays n (term_fits n) result }
 {
-    if n > LAST_TERM {
+    if !is_told(n) {
         return Reply::Refused(1);
     }
     Reply::Term(term_of(n))
+}
+
+// Whether the term of that number is told.
+fn is_told(n: u64) -> bool
+    ensures { result ≡ term_fits n }
+{
+    n <= LAST_TERM
 }
 
 // Each block of the sequence is two blocks of half its size and then its largest term.
@@ -82,7 +89,7 @@ fn term_of(n: u64) -> u64
 
 // The machine's promises, over every list of commands.
 fn promises()
-    ensures whole { Whole all_but_proofs own }
+    ensures whole { Whole everything own }
     ensures printed { PrintsBack own }
 {}
 
@@ -90,7 +97,7 @@ fn promises()
 // what it was.
 pub fn begin(memory: &mut [u64])
     ensures cleared { memory.new ≡ replicate (length memory.old) 0 }
-    ensures whole { Whole all_but_proofs own }
+    ensures whole { Whole everything own }
     ensures printed { PrintsBack own }
 {
     clear(memory);
@@ -122,7 +129,7 @@ pub fn step(memory: &mut [u64], kind: u64, row: &[u64], bytes: &[u8], out: &mut 
         kind::CORE => commands::core(memory),
         kind::READ => commands::read_in(memory, bytes),
         kind::PRINT => commands::print(memory, out),
-        kind::GO_ON => going::go_on(memory, out),
-        _ => Told::No(2),
+        kind::PROVE => commands::prove(memory),
+        _ => going::go_on(memory, out),
     }
 }

@@ -1,11 +1,11 @@
 // The memory map: where each table lies, how it is read and how it is written.
 // Each write promises the view of the memory with that one table changed.
-ghost use Rattle.std.specs.Prelude.{◌≡◌, slice_set};
+ghost use Rattle.std.specs.Prelude.{◌≡◌, ◌+◌, ◌/◌, ◌==◌, slice_set};
 ghost use Rattle.std.proofs.lemmas.List.Edits.{sets};
 ghost use Rattle.formula.specs.Arena.{clause_row};
 ghost use Rattle.dimacs.specs.Text.{file_read};
 ghost use Rattle.dimacs.specs.Scan.{table_after, outcome_of};
-ghost use Rattle.solver.specs.State.{view, zeros, scalar, with_scalar, with_assumptions, with_core, with_model, with_arena, with_work, assumed};
+ghost use Rattle.solver.specs.State.{view, zeros, scalar, proving, with_scalar, with_assumptions, with_core, with_model, with_arena, with_work, assumed};
 ghost use Rattle.search.specs.Plain.{fresh, act};
 ghost use Rattle.solver.specs.Coded.{Sized};
 
@@ -59,6 +59,8 @@ pub const PENDING_NUMBER: u64 = 11;
 
 pub const ENDING: u64 = 12;
 
+pub const PROVING: u64 = 13;
+
 // The verdict.
 pub const UNKNOWN: u64 = 0;
 
@@ -81,6 +83,10 @@ pub const PRINTING: u64 = 4;
 
 pub const TELLING: u64 = 5;
 
+pub const WRITING: u64 = 6;
+
+pub const ANSWERING: u64 = 7;
+
 fn scalars(m: &[u64]) -> &[u64]
     requires { Sized m.now }
     ensures { result.now ≡ (view m.now).scalars }
@@ -88,21 +94,28 @@ fn scalars(m: &[u64]) -> &[u64]
     &m[SCALARS..ASSUMPTIONS]
 }
 
-pub fn read(m: &[u64], i: u64) -> u64
+pub(crate) fn read(m: &[u64], i: u64) -> u64
     requires { Sized m.now }
     ensures { result ≡ scalar (view m.now) i }
 {
     get(scalars(m), i)
 }
 
-pub fn write(m: &mut [u64], i: u64, value: u64)
+pub(crate) fn write(m: &mut [u64], i: u64, value: u64)
     requires { Sized m.old }
     ensures { view m.new ≡ with_scalar (view m.old) i value }
 {
     put(&mut m[SCALARS..ASSUMPTIONS], i, value)
 }
 
-pub fn assumptions(m: &[u64]) -> &[u64]
+pub(crate) fn is_proving(m: &[u64]) -> bool
+    requires { Sized m.now }
+    ensures { result ≡ (proving (view m.now) == 1) }
+{
+    read(m, PROVING) == 1
+}
+
+pub(crate) fn assumptions(m: &[u64]) -> &[u64]
     requires { Sized m.now }
     ensures { result.now ≡ (view m.now).assumptions }
 {
@@ -110,92 +123,99 @@ pub fn assumptions(m: &[u64]) -> &[u64]
 }
 
 // The literals that are assumed.
-pub fn assumed_literals(m: &[u64]) -> &[u64]
+pub(crate) fn assumed_literals(m: &[u64]) -> &[u64]
     requires { Sized m.now }
     ensures { result.now ≡ assumed (view m.now) }
 {
     part(assumptions(m), 0, read(m, NUM_ASSUMPTIONS))
 }
 
-pub fn write_assumptions(m: &mut [u64], row: &[u64])
+pub(crate) fn write_assumptions(m: &mut [u64], row: &[u64])
     requires { Sized m.old }
     ensures { view m.new ≡ with_assumptions (view m.old) (sets (view m.old).assumptions 0 row.now) }
 {
     write_row(&mut m[ASSUMPTIONS..CORE], 0, row)
 }
 
-pub fn core(m: &[u64]) -> &[u64]
+pub(crate) fn core(m: &[u64]) -> &[u64]
     requires { Sized m.now }
     ensures { result.now ≡ (view m.now).core }
 {
     &m[CORE..MODEL]
 }
 
-pub fn clear_core(m: &mut [u64])
+pub(crate) fn clear_core(m: &mut [u64])
     requires { Sized m.old }
     ensures { view m.new ≡ with_core (view m.old) (zeros 1024) }
 {
     clear(&mut m[CORE..MODEL])
 }
 
-pub fn mark_core(m: &mut [u64], place: u64)
+pub(crate) fn mark_core(m: &mut [u64], place: u64)
     requires { Sized m.old }
     ensures { view m.new ≡ with_core (view m.old) (slice_set (view m.old).core place 1) }
 {
     put(&mut m[CORE..MODEL], place, 1)
 }
 
-pub fn model(m: &[u64]) -> &[u64]
+pub(crate) fn model(m: &[u64]) -> &[u64]
     requires { Sized m.now }
     ensures { result.now ≡ (view m.now).model }
 {
     &m[MODEL..ARENA]
 }
 
-pub fn write_model(m: &mut [u64], var: u64, lit: u64)
+pub(crate) fn write_model(m: &mut [u64], var: u64, lit: u64)
     requires { Sized m.old }
     ensures { view m.new ≡ with_model (view m.old) (slice_set (view m.old).model var lit) }
 {
     put(&mut m[MODEL..ARENA], var, lit)
 }
 
-pub fn arena(m: &[u64]) -> &[u64]
+pub(crate) fn arena(m: &[u64]) -> &[u64]
     requires { Sized m.now }
     ensures { result.now ≡ (view m.now).arena }
 {
     &m[ARENA..WORK]
 }
 
-pub fn store_clause(m: &mut [u64], start: u64, clause: &[u64])
+pub(crate) fn store_clause(m: &mut [u64], start: u64, clause: &[u64])
     requires { Sized m.old }
     ensures { view m.new ≡ with_arena (view m.old) (sets (view m.old).arena start (clause_row clause.now)) }
 {
     store(&mut m[ARENA..WORK], start, clause)
 }
 
-pub fn work(m: &[u64]) -> &[u64]
+pub(crate) fn work(m: &[u64]) -> &[u64]
     requires { Sized m.now }
     ensures { result.now ≡ (view m.now).work }
 {
     &m[WORK..SIZE]
 }
 
-pub fn start_search(m: &mut [u64])
+pub(crate) fn start_search(m: &mut [u64])
     requires { Sized m.old }
     ensures { view m.new ≡ with_work (view m.old) (fresh (view m.old).work) }
 {
     plain::start(&mut m[WORK..SIZE])
 }
 
-pub fn act_on_work(m: &mut [u64], finding: Finding)
+pub(crate) fn act_on_work(m: &mut [u64], finding: Finding)
     requires { Sized m.old }
     ensures { view m.new ≡ with_work (view m.old) (act (view m.old).work finding) }
 {
     plain::act(&mut m[WORK..SIZE], finding)
 }
 
+pub(crate) fn see_literal(m: &mut [u64], lit: u64)
+    requires { Sized m.old }
+    ensures { view m.new ≡ with_work (view m.old) (slice_set (view m.old).work (16640 + lit / 2) 1) }
+{
+    plain::see(&mut m[WORK..SIZE], lit)
+}
+
 // A file's clauses, written into the arena behind the others.
-pub fn read_file(m: &mut [u64], bytes: &[u8], start: u64) -> Outcome
+pub(crate) fn read_file(m: &mut [u64], bytes: &[u8], start: u64) -> Outcome
     requires { Sized m.old }
     ensures after { view m.new ≡ with_arena (view m.old) (table_after (view m.old).arena start bytes.now) }
     ensures answer { result ≡ outcome_of (file_read bytes.now) }

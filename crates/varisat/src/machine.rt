@@ -10,13 +10,13 @@ use std::alloc::{AllocError, Global};
 // The length of the solver's memory.
 const MEMORY: usize = 524288;
 
-#[derive(Drop)]
+#[derive(Clone, Drop)]
 pub struct Machine {
     memory: Vec<u64>,
 }
 
 impl Machine {
-    pub fn new(heap: Global) -> Result<Machine, AllocError>
+    pub(crate) fn new(heap: Global) -> Result<Machine, AllocError>
         ensures { IfOk result (λ m. m.memory.items ≡ own.start) }
     {
         let mut memory = vec![in heap; 0; MEMORY]?;
@@ -25,7 +25,7 @@ impl Machine {
     }
 
     // A command driven to its end, or as far as the budget of steps goes.
-    pub fn drive<O: Output>(
+    pub(crate) fn drive<O: Output>(
         &mut self,
         kind: u64,
         row: &[u64],

@@ -12,6 +12,7 @@ mod literal;
 mod machine;
 mod options;
 mod printer;
+mod proof;
 mod refusal;
 mod request;
 mod session;

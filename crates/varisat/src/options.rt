@@ -17,6 +17,8 @@ pub struct Options {
     // A path, or "-" for standard input.
     pub file: String,
     pub assumed: Vec<u64>,
+    // Where the proof goes, if one is wanted.
+    pub proof: Option<String>,
     pub model: bool,
     pub stats: bool,
 }
@@ -29,6 +31,8 @@ pub enum Misuse {
     Missing(String),
     // Not literals.
     Assumptions(Mistake),
+    // Assumptions, and a proof that can't rest on them.
+    AssumingInProof,
     // A word more than is wanted.
     Extra(String),
     NoFile,
@@ -53,6 +57,9 @@ impl fmt::Display for Misuse {
                 "{option} wants a word behind it; see varisat --help"
             ),
             Misuse::Assumptions(mistake) => write!(f, "--assume: {mistake}"),
+            Misuse::AssumingInProof => f.write_str(
+                "--proof and --assume don't go together: nothing is assumed while a proof is written",
+            ),
             Misuse::Extra(word) => write!(f, "{word:?} is one word too many; see varisat --help"),
             Misuse::NoFile => f.write_str("the name of a file is missing; see varisat --help"),
             Misuse::NoMemory => f.write_str("there is no memory for it"),
@@ -61,7 +68,7 @@ impl fmt::Display for Misuse {
 }
 
 // The task of the words behind the program's name.
-pub fn task_of(heap: Global, words: &[String]) -> Result<Task, Misuse> {
+pub(crate) fn task_of(heap: Global, words: &[String]) -> Result<Task, Misuse> {
     let [first, rest @ ..] = words else {
         return Ok(Task::Usage);
     };
@@ -77,23 +84,41 @@ pub fn task_of(heap: Global, words: &[String]) -> Result<Task, Misuse> {
     }
 }
 
+// An option that takes the word behind it.
+#[derive(Clone, Copy)]
+enum Taking {
+    Assumptions,
+    Proof,
+}
+
+impl Taking {
+    fn name(self) -> &'static str {
+        match self {
+            Taking::Assumptions => "--assume",
+            Taking::Proof => "--proof",
+        }
+    }
+}
+
 fn options_of(heap: Global, words: &[String]) -> Result<Options, Misuse> {
     let mut file = None;
     let mut options = Options {
         file: String::new(heap),
         assumed: Vec::new(heap),
+        proof: None,
         model: true,
         stats: false,
     };
-    let mut assume_next = false;
+    let mut taking = None;
     for word in words {
-        if assume_next {
-            options.assumed = assumptions_of(heap, word.as_str())?;
-            assume_next = false;
+        if let Some(option) = taking {
+            take_word(heap, &mut options, option, word)?;
+            taking = None;
             continue;
         }
         match word.as_str() {
-            "--assume" => assume_next = true,
+            "--assume" => taking = Some(Taking::Assumptions),
+            "--proof" => taking = Some(Taking::Proof),
             "--no-model" => options.model = false,
             "--stats" => options.stats = true,
             name if name.starts_with('-') && name != "-" => return Err(Misuse::UnknownOption(
@@ -103,13 +128,34 @@ fn options_of(heap: Global, words: &[String]) -> Result<Options, Misuse> {
             _ => file = Some(word.clone()?),
         }
     }
-    if assume_next {
-        return Err(Misuse::Missing(String::from_str(heap, "--assume")?));
+    if let Some(option) = taking {
+        return Err(Misuse::Missing(String::from_str(heap, option.name())?));
     }
     let Some(name) = file else {
         return Err(Misuse::NoFile);
     };
     options.file = name;
+    checked(options)
+}
+
+fn take_word(
+    heap: Global,
+    options: &mut Options,
+    option: Taking,
+    word: &String,
+) -> Result<(), Misuse> {
+    match option {
+        Taking::Assumptions => options.assumed = assumptions_of(heap, word.as_str())?,
+        Taking::Proof => options.proof = Some(word.clone()?),
+    }
+    Ok(())
+}
+
+// Options that go together.
+fn checked(options: Options) -> Result<Options, Misuse> {
+    if options.proof.is_some() && !options.assumed.is_empty() {
+        return Err(Misuse::AssumingInProof);
+    }
     Ok(options)
 }
 

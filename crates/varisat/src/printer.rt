@@ -12,6 +12,7 @@ use std::io::{BufWriter, Stdout, Write};
 pub enum Style {
     // Nothing but that it is done.
     Done,
+    // A number, behind what is written before it is known.
     Number,
     // A variable, shown from 0 and printed from 1.
     Variable,
@@ -28,7 +29,7 @@ pub struct Printer {
 }
 
 impl Printer {
-    pub fn new(alloc: Global, out: Stdout) -> io::Result<Printer> {
+    pub(crate) fn new(alloc: Global, out: Stdout) -> io::Result<Printer> {
         Ok(Printer {
             out: BufWriter::new(alloc, out)?,
             style: Style::Done,
@@ -36,18 +37,18 @@ impl Printer {
     }
 
     // From here on, answers of this style.
-    pub fn begin(&mut self, style: Style) {
+    pub(crate) fn begin(&mut self, style: Style) {
         self.style = style;
     }
 
     // A line of its own, printed at once.
-    pub fn line<D: Display + Drop>(&mut self, text: D) -> io::Result<()> {
+    pub(crate) fn line<D: Display + Drop>(&mut self, text: D) -> io::Result<()> {
         self.out.writeln(text)?;
         self.out.flush()
     }
 
     // The end of an answer. Who asked may wait for it, so all of it is printed now.
-    pub fn end(&mut self) -> io::Result<()> {
+    pub(crate) fn end(&mut self) -> io::Result<()> {
         match self.style {
             Style::Done => self.out.write_all(b"ok\n")?,
             Style::Number | Style::Variable => self.out.write_all(b"\n")?,

@@ -25,7 +25,7 @@ pub enum Refusal {
 
 impl Refusal {
     // The reason that a number and what was shown with it stand for.
-    pub fn of(number: u64, shown: &[u64]) -> Refusal
+    pub(crate) fn of(number: u64, shown: &[u64]) -> Refusal
         ensures number { number_of result ≡ number }
         ensures shown { ShownWith result shown.now }
     {
@@ -56,7 +56,7 @@ impl Refusal {
         }
     }
 
-    pub fn number(&self) -> u64
+    pub(crate) fn number(&self) -> u64
         ensures { result ≡ number_of self.now }
     {
         match self {
@@ -134,7 +134,10 @@ fn write_reason<W: fmt::Write>(refusal: Refusal, f: &mut fmt::Formatter<W>) -> f
 }
 
 // The reason behind the place, as compilers tell faults of a file: `:LINE: reason (refused NUMBER)`.
-pub fn write_place<W: fmt::Write>(refusal: Refusal, f: &mut fmt::Formatter<W>) -> fmt::Result {
+pub(crate) fn write_place<W: fmt::Write>(
+    refusal: Refusal,
+    f: &mut fmt::Formatter<W>,
+) -> fmt::Result {
     let number = refusal.number();
     match refusal {
         Refusal::Byte { line, byte } => {

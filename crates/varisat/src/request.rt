@@ -5,8 +5,8 @@ ghost use Rattle.varisat.specs.Requests.{Asked};
 
 use crate::literal::number_of;
 use std::alloc::{AllocError, AllocFailed, Global};
-use std::fmt;
 use std::num::IntErrorKind;
+use std::{fmt, io};
 
 #[derive(Drop)]
 pub enum Request {
@@ -38,6 +38,9 @@ pub enum Mistake {
     RowTooLong,
     Unreadable(String),
     FileTooLong(String),
+    Unwritable(String, io::Error),
+    // A proof that was begun and can't be ended.
+    LostProof(io::Error),
     OutOfSteps,
     NoMemory,
 }
@@ -73,6 +76,11 @@ impl fmt::Display for Mistake {
             ),
             Mistake::Unreadable(file) => write!(f, "{file:?} can't be read"),
             Mistake::FileTooLong(file) => write!(f, "{file:?} is longer than 1048576 bytes"),
+            Mistake::Unwritable(file, error) => write!(f, "{file:?} can't be written: {error}"),
+            Mistake::LostProof(error) => write!(
+                f,
+                "the rest of the proof can't be written: {error}"
+            ),
             Mistake::OutOfSteps => f.write_str("the steps are used up"),
             Mistake::NoMemory => f.write_str("there is no memory for it"),
         }
@@ -82,7 +90,7 @@ impl fmt::Display for Mistake {
 // The longest row that the machine takes.
 const MAX_ROW: usize = 1048576;
 
-pub fn parse(heap: Global, line: &str) -> Result<Request, Mistake> {
+pub(crate) fn parse(heap: Global, line: &str) -> Result<Request, Mistake> {
     let line = line.trim();
     let word = line.split_whitespace().next().unwrap_or("");
     let rest = line.strip_prefix(word).unwrap_or("").trim();
@@ -189,7 +197,7 @@ fn parse_literal(heap: Global, word: &str) -> Result<Option<u64>, Mistake> {
 }
 
 // Literals with no 0 behind them.
-pub fn parse_literals(heap: Global, text: &str) -> Result<Vec<u64>, Mistake>
+pub(crate) fn parse_literals(heap: Global, text: &str) -> Result<Vec<u64>, Mistake>
     ensures { IfOk result (λ row. vec_len row ≤ 1048576) }
 {
     let mut row = Vec::new(heap);

@@ -2,6 +2,7 @@
 // What is promised is the machine's.
 use crate::machine::Machine;
 use crate::printer::{Printer, Style};
+use crate::proof::ProofFile;
 use crate::refusal::Refusal;
 use crate::request::{Mistake, Request, parse};
 use crate::usage;
@@ -22,6 +23,8 @@ struct Session {
     rt: HostRuntime,
     machine: Machine,
     printer: Printer,
+    // Where a proof goes, if not to standard output.
+    proof: Option<ProofFile>,
     // The number of the line that is answered, from 1.
     line: u64,
 }
@@ -32,6 +35,7 @@ impl Session {
             rt: *rt,
             machine: Machine::new(rt.alloc())?,
             printer: Printer::new(rt.alloc(), rt.stdout())?,
+            proof: None,
             line: 0,
         })
     }
@@ -62,13 +66,13 @@ impl Session {
             Request::New => self.run(kind::NEW_VAR, &[], Style::Variable),
             Request::Add(row) => self.run(kind::ADD, row.as_slice(), Style::Done),
             Request::Assume(row) => self.run(kind::ASSUME, row.as_slice(), Style::Done),
-            Request::Solve => self.run(kind::SOLVE, &[], Style::Number),
+            Request::Solve => self.run_solve(),
             Request::Model => self.run(kind::MODEL, &[], Style::Literals),
             Request::Core => self.run(kind::CORE, &[], Style::Literals),
             Request::Read(file) => self.run_read(file),
             Request::Print => self.run(kind::PRINT, &[], Style::Text),
-            // The file is for when the machine knows of proofs.
-            Request::Prove(_) => self.run(kind::PROVE, &[], Style::Done),
+            Request::Prove(None) => self.run(kind::PROVE, &[], Style::Done),
+            Request::Prove(Some(file)) => self.run_prove(file),
             Request::Help => self.printer.line(usage::COMMANDS),
             Request::Nothing => Ok(()),
         }
@@ -83,6 +87,49 @@ impl Session {
         {
             End::Finished => self.printer.end(),
             end => self.end_early(end, &[]),
+        }
+    }
+
+    // With a file for the proof, the answer is told once all of the proof stands there.
+    fn run_solve(&mut self) -> io::Result<()> {
+        let Some(mut proof) = self.proof.take() else {
+            return self.run(kind::SOLVE, &[], Style::Number);
+        };
+        let end = self
+            .machine
+            .drive(kind::SOLVE, &[], &[], BUDGET, &mut proof);
+        let answer = proof.finish();
+        self.proof = Some(proof);
+        match answer {
+            Ok(Some(answer)) => self.printer.line(answer),
+            Ok(None) => self.end_early(end, &[]),
+            Err(error) => {
+                self.complain(Mistake::LostProof(error))?;
+                Err(error)
+            }
+        }
+    }
+
+    // The machine is asked first, since a file is emptied only for a proof that will be written. If there can be no
+    // such file, the machine is put back as it was.
+    fn run_prove(&mut self, file: String) -> io::Result<()> {
+        let before = self.machine.clone()?;
+        self.printer.begin(Style::Done);
+        let end = self
+            .machine
+            .drive(kind::PROVE, &[], &[], BUDGET, &mut self.printer);
+        if !matches!(end, End::Finished) {
+            return self.end_early(end, &[]);
+        }
+        match ProofFile::create(&self.rt, file.as_str()) {
+            Ok(proof) => {
+                self.proof = Some(proof);
+                self.printer.end()
+            }
+            Err(error) => {
+                self.machine = before;
+                self.complain(Mistake::Unwritable(file, error))
+            }
         }
     }
 
@@ -128,7 +175,7 @@ impl Session {
 }
 
 // Answers the lines of standard input until it ends.
-pub fn serve(rt: &HostRuntime) -> io::Result<()> {
+pub(crate) fn serve(rt: &HostRuntime) -> io::Result<()> {
     let mut session = Session::new(rt)?;
     let mut input = BufReader::new(rt.alloc(), rt.stdin())?;
     let mut line = Vec::new(rt.alloc());

@@ -3,10 +3,11 @@
 use crate::literal::Literal;
 use crate::machine::Machine;
 use crate::options::Options;
+use crate::proof::ProofFile;
 use crate::refusal::{Refusal, write_place};
 use solver::collected::Collected;
 use solver::kind;
-use solver::run::End;
+use solver::run::{End, Output};
 use std::alloc::{AllocError, AllocFailed};
 use std::io::{BufWriter, Read, Stdout, Write};
 use std::{fmt, fs, io};
@@ -23,10 +24,11 @@ const WIDTH: usize = 78;
 // Why a file couldn't be solved.
 #[derive(Drop)]
 pub enum Trouble {
-    Unreadable(String, io::Error),
+    // A file that can't be read or written.
+    File(String, io::Error),
     TooLong(String),
+    // A file, or an option, that the machine refused.
     Wrong(String, Refusal),
-    Assumptions(Refusal),
     Io(io::Error),
     NoMemory,
     // The machine's answer was none.
@@ -54,17 +56,13 @@ impl From<io::Error> for Trouble {
 impl fmt::Display for Trouble {
     fn fmt<W: fmt::Write>(&self, f: &mut fmt::Formatter<W>) -> fmt::Result {
         match self {
-            Trouble::Unreadable(file, error) => write!(f, "{file}: {error}"),
+            Trouble::File(file, error) => write!(f, "{file}: {error}"),
             Trouble::TooLong(file) => write!(
                 f,
                 "{file}: longer than 1048576 bytes, the most that is read"
             ),
-            Trouble::Wrong(file, refusal) => {
-                f.write_str(file.as_str())?;
-                write_place(*refusal, f)
-            }
-            Trouble::Assumptions(refusal) => {
-                f.write_str("--assume")?;
+            Trouble::Wrong(name, refusal) => {
+                f.write_str(name.as_str())?;
                 write_place(*refusal, f)
             }
             Trouble::Io(error) => write!(f, "{error}"),
@@ -90,10 +88,9 @@ impl Solving {
         })
     }
 
-    // A command taken to its end, and what it showed.
-    fn say(&mut self, kind: u64, row: &[u64], bytes: &[u8]) -> (End, Vec<u64>) {
-        let mut told = Collected::new(self.rt.alloc());
-        let mut end = self.machine.drive(kind, row, bytes, PROGRESS, &mut told);
+    // A command taken to its end, with what it tells handed to the sink.
+    fn drive<O: Output>(&mut self, kind: u64, row: &[u64], bytes: &[u8], out: &mut O) -> End {
+        let mut end = self.machine.drive(kind, row, bytes, PROGRESS, out);
         for _ in 0..u64::MAX {
             if !matches!(end, End::Unfinished) {
                 break;
@@ -101,12 +98,51 @@ impl Solving {
             self.steps = self.steps.saturating_add(PROGRESS);
             let steps = self.steps;
             let _ = eprintln!(self.rt; "c {steps} steps");
-            end = self
-                .machine
-                .drive(kind::GO_ON, &[], &[], PROGRESS, &mut told);
+            end = self.machine.drive(kind::GO_ON, &[], &[], PROGRESS, out);
         }
+        end
+    }
+
+    // A command taken to its end, and what it showed.
+    fn say(&mut self, kind: u64, row: &[u64], bytes: &[u8]) -> (End, Vec<u64>) {
+        let mut told = Collected::new(self.rt.alloc());
+        let end = self.drive(kind, row, bytes, &mut told);
         let Collected { shown, written: _ } = told;
         (end, shown)
+    }
+
+    // What a command showed that has to be taken. If it is refused, the name says what is to blame.
+    fn insist(
+        &mut self,
+        kind: u64,
+        row: &[u64],
+        bytes: &[u8],
+        name: &str,
+    ) -> Result<Vec<u64>, Trouble> {
+        let (end, shown) = self.say(kind, row, bytes);
+        if let End::Refused(number) = end {
+            let refusal = Refusal::of(number, shown.as_slice());
+            return Err(Trouble::Wrong(String::from_str(self.rt.alloc(), name)?, refusal));
+        }
+        Ok(shown)
+    }
+
+    // The answer; if a proof is wanted, once all of it stands in its file.
+    fn solve(&mut self, proof: &Option<String>) -> Result<Option<u64>, Trouble> {
+        let Some(file) = proof else {
+            let (_end, shown) = self.say(kind::SOLVE, &[], &[]);
+            return Ok(shown.first().copied());
+        };
+        match self.solve_into(file.as_str()) {
+            Ok(answer) => Ok(answer),
+            Err(error) => Err(Trouble::File(file.clone()?, error)),
+        }
+    }
+
+    fn solve_into(&mut self, file: &str) -> io::Result<Option<u64>> {
+        let mut proof = ProofFile::create(&self.rt, file)?;
+        let _end = self.drive(kind::SOLVE, &[], &[], &mut proof);
+        proof.finish()
     }
 }
 
@@ -122,7 +158,7 @@ fn bytes_of(rt: &HostRuntime, file: &String) -> Result<Vec<u8>, Trouble> {
         }
     };
     if let Err(error) = taken {
-        return Err(Trouble::Unreadable(file.clone()?, error));
+        return Err(Trouble::File(file.clone()?, error));
     }
     if bytes.len() as u64 > MAX_FILE {
         return Err(Trouble::TooLong(file.clone()?));
@@ -170,28 +206,24 @@ fn print_answer(
 }
 
 // Reads a file, solves it under what is assumed, and prints the answer.
-pub fn solve_file(rt: &HostRuntime, options: &Options) -> Result<(), Trouble> {
+pub(crate) fn solve_file(rt: &HostRuntime, options: &Options) -> Result<(), Trouble> {
     let bytes = bytes_of(rt, &options.file)?;
     let mut solving = Solving::new(rt)?;
     let mut out = BufWriter::new(rt.alloc(), rt.stdout())?;
-    let (end, shown) = solving.say(kind::READ, &[], bytes.as_slice());
-    if let End::Refused(number) = end {
-        return Err(Trouble::Wrong(options.file.clone()?, Refusal::of(number, shown.as_slice())));
+    if options.proof.is_some() {
+        solving.insist(kind::PROVE, &[], &[], "--proof")?;
     }
+    let shown = solving.insist(kind::READ, &[], bytes.as_slice(), options.file.as_str())?;
     if options.stats {
         if let [vars, clauses] = shown.as_slice() {
             writeln!(out, "c {vars} variables, {clauses} clauses")?;
         }
     }
     if !options.assumed.is_empty() {
-        let (end, _shown) = solving.say(kind::ASSUME, options.assumed.as_slice(), &[]);
-        if let End::Refused(number) = end {
-            return Err(Trouble::Assumptions(Refusal::of(number, &[])));
-        }
+        solving.insist(kind::ASSUME, options.assumed.as_slice(), &[], "--assume")?;
     }
-    let (_end, shown) = solving.say(kind::SOLVE, &[], &[]);
-    match shown.as_slice() {
-        [answer] => print_answer(&mut solving, &mut out, options, *answer),
-        _ => Err(Trouble::Unanswered),
+    match solving.solve(&options.proof)? {
+        Some(answer) => print_answer(&mut solving, &mut out, options, answer),
+        None => Err(Trouble::Unanswered),
     }
 }

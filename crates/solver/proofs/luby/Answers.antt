@@ -1,13 +1,16 @@
-use Rattle.std.proofs.Common.{refl, ap}
+use Rattle.std.proofs.Common.{sym, refl, ap, ◌∙◌}
+use Rattle.std.proofs.lemmas.Bool.{leb-true}
 use Rattle.solver.specs.declared.Reply.TheVariants.{Term}
-use Rattle.std.proofs.lemmas.Bool.{le-leb, lt-leb}
 use Rattle.solver.specs.Entry.{TermSays}
 use Rattle.solver.proofs.luby.Goals as goal
 
-pub returns-then-n-gt-LAST_TERM : goal.returns-then-n-gt-LAST_TERM
+pub returns-then-not-is_told : goal.returns-then-not-is_told
 unfolding TermSays
-returns-then-n-gt-LAST_TERM c = rw (lt-leb c.args.n 1048576 c.if-n-gt-LAST_TERM.true) refl
+returns-then-not-is_told c = rw (sym c.is_told.ensures ∙ c.if-not-is_told.true) refl
+
+pub term_of-requires : goal.term_of-requires
+term_of-requires c = leb-true _ _ (sym c.is_told.ensures ∙ c.if-not-is_told.false)
 
 pub returns : goal.returns
 unfolding TermSays
-returns c = rw (le-leb c.args.n 1048576 c.if-n-gt-LAST_TERM.false) (ap Term c.term_of.ensures)
+returns c = rw (sym c.is_told.ensures ∙ c.if-not-is_told.false) (ap Term c.term_of.ensures)

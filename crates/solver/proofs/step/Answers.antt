@@ -1,5 +1,5 @@
 use Rattle.std.proofs.Common.{rules}
-use Rattle.solver.proofs.Steps.{steps, stays, fits_sized, fits_room, fits_bytes, quiet_written, kind_0, kind_1, kind_2, kind_3, kind_4, kind_5, kind_6, kind_7, kind_9, step_unknown, new_var_quiet, add_quiet, assume_quiet, solve_quiet, model_quiet, core_quiet, read_quiet}
+use Rattle.solver.proofs.Steps.{steps, stays, fits_sized, fits_room, fits_bytes, quiet_written, kind_0, kind_1, kind_2, kind_3, kind_4, kind_5, kind_6, kind_7, kind_8, step_goes_on, fits_kind, new_var_quiet, add_quiet, assume_quiet, solve_quiet, model_quiet, core_quiet, read_quiet, prove_quiet}
 use Rattle.solver.proofs.step.Goals as goal
 
 pub returns-then-not-fits : goal.returns-then-not-fits
@@ -56,8 +56,11 @@ returns-in-7 c = search (rules, steps, kind_7)
 pub go_on-requires : goal.go_on-requires
 go_on-requires c = search (rules, fits_sized, fits_room)
 
-pub returns-in-9 : goal.returns-in-9
-returns-in-9 c = search (rules, steps, kind_9)
+pub prove-requires : goal.prove-requires
+prove-requires c = search (rules, fits_sized)
+
+pub returns-in-8 : goal.returns-in-8
+returns-in-8 c = search (rules, steps, kind_8, quiet_written, prove_quiet)
 
 pub returns-in_default : goal.returns-in_default
-returns-in_default c = search (rules, step_unknown)
+returns-in_default c = search (rules, steps, step_goes_on, fits_kind)

@@ -10,10 +10,6 @@ pub returns-else-depth-eq0 : goal.returns-else-depth-eq0
 unfolding look
 returns-else-depth-eq0 c = grind arith
 
-pub returns-then-some_false : goal.returns-then-some_false
-unfolding look
-returns-then-some_false c = grind arith
-
 pub returns : goal.returns
 unfolding look
 returns c = grind arith
