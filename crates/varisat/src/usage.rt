@@ -1,6 +1,6 @@
 // What the program tells of itself: its usage, its commands and its version.
 // Texts only.
-pub const VERSION: &str = "varisat 0.1.0 (proved; rattle-kit-8b)";
+pub const VERSION: &str = "varisat 0.1.0 (proved; rattle-kit-13f)";
 
 pub const TEXT: &str =
     "varisat solves formulas in conjunctive normal form: clauses are added, some literals may be assumed,
