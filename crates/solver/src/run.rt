@@ -1,6 +1,6 @@
 // A command driven to its end, with a budget of steps, and a sink for what it shows and writes.
 // `run` promises that memory, sink and end are those of the machine's run.
-ghost use Rattle.std.specs.Prelude.{◌≡◌, ℕ, T, List, [], ◌∷◌, ◌++◌};
+ghost use Rattle.std.specs.Prelude.{ℕ, T, List, [], ◌∷◌, ◌++◌};
 ghost use Rattle.solver.specs.Running.{Handed, RunSays, run_fits};
 
 use crate::kind::GO_ON;

@@ -4,7 +4,7 @@
 
 use crate::options::{Misuse, Task, task_of};
 use crate::solving::Trouble;
-use std::alloc::{AllocError, AllocFailed};
+use std::alloc::AllocFailed;
 use std::process::ExitCode;
 use std::{env, fmt, io};
 
