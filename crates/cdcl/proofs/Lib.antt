@@ -1,7 +1,6 @@
 pub mod Heaps
 pub mod Trails
+pub mod Loops
 pub mod Walks
-pub mod Analyses
 pub mod Decisions
 pub mod Loads
-pub mod Turns

@@ -1,6 +1,6 @@
 -- A conflict above the first level: the clause that is learned from it, back to the level where it forces its first literal, and that literal made
 -- true by it. Definitions only, total on any table.
-use Rattle.std.specs.Prelude.{ℕ, ◌-◌, List, nat_lt}
+use Rattle.std.specs.Prelude.{ℕ, ◌-◌, List, Some, nat_lt}
 use Rattle.formula.specs.Logic.{pick}
 use Rattle.cdcl.specs.Work.{learned_lits}
 use Rattle.cdcl.specs.Vsids.{grown}
@@ -9,22 +9,19 @@ use Rattle.cdcl.specs.Analysis.{learned_len, learned_lit, highest, analyzed, cla
 use Rattle.cdcl.specs.Clauses.{next_clause, has_room, stored, attached}
 
 -- THE CLAUSE: the walk at the conflict's own level, its last literal first, minimized, and one of the highest level second
-abbrev pub shortened : ℕ → List ℕ → List ℕ
-shortened d w = minimized (learned_len w) 0 0 d w
-
 unfoldable pub lesson : List ℕ → ℕ → List ℕ
-lesson w c = second_highest (shortened (clause_level w c) (last_first (analyzed (clause_level w c) 2 w c)))
+lesson w c = second_highest (minimized (clause_level w c) (last_first (analyzed (clause_level w c) w c)))
 
 -- THE LEVEL TO GO BACK TO: the highest of its literals but the first
 abbrev pub jump_level : List ℕ → ℕ
-jump_level w = highest learned_lits (learned_len w - 1) 1 w 0
+jump_level w = highest learned_lits (learned_len w - 1) 1 w
 
 -- the clause stored, watched if it has two literals, and its first literal true by it
 abbrev pub kept : List ℕ → List ℕ
 kept w = pick (nat_lt 1 (learned_len w)) (attached (stored w) (next_clause w)) (stored w)
 
 abbrev pub with_lesson : List ℕ → List ℕ
-with_lesson w = enqueue (kept w) (learned_lit w 0) (next_clause w)
+with_lesson w = enqueue (kept w) (learned_lit w 0) (Some (next_clause w))
 
 -- a clause that has no room is forgotten
 abbrev pub taken : List ℕ → List ℕ

@@ -1,4 +1,5 @@
 pub mod Work
+pub mod Scalars
 pub mod Vsids
 pub mod Assignment
 pub mod Watch

@@ -1,66 +1,75 @@
 // From a conflict to a clause: the walk back over the trail to the first unique implication point, and for a failed core to decisions.
 // Each function promises just what its definition says, on any table.
-ghost use Rattle.std.specs.Prelude.{◌≡◌, ◌+◌, ◌-◌, ◌/◌, ◌<◌, ◌≤◌, ◌==◌, nat_lt};
-ghost use Rattle.formula.specs.Logic.{pick, or};
-ghost use Rattle.cdcl.specs.Work.{put, learned_lits};
-ghost use Rattle.cdcl.specs.Watch.{start_of, len_of};
+ghost use Rattle.std.specs.Prelude.{◌≡◌, ◌+◌, ◌-◌, ◌/◌, ◌≤◌, ◌==◌};
+ghost use Rattle.formula.specs.Logic.{or};
+ghost use Rattle.cdcl.specs.Work.{Gives, outcome};
 ghost use Rattle.cdcl.specs.Assignment.{size_of, lit_level};
 ghost use Rattle.cdcl.specs.Learning.{lesson, jump_level};
-ghost use Rattle.cdcl.specs.Analysis.{stamp, is_marked, learned_len, open_count, push, with_mark, mark_one, mark_clause, reason_of, resolves, resolve, walk_back, highest, cleared_marks, next_stamp, started, clause_level, analyzed, swapped, last_first, is_covered, all_covered, is_spare, minimized, peak, second_highest, learned_lit};
+ghost use Rattle.cdcl.specs.Analysis.{stamp, is_marked, learned_len, open_count, push, with_mark, involved, mark_one, mark_clause, reason_of, goes_on, resolving, resolve, walk_back, highest, cleared_marks, next_stamp, started, clause_level, analyzed, swapped, last_first, is_covered, all_covered, is_spare, keep_needed, minimized, higher_place, peak, second_highest, learned_lit};
 
 use crate::assignment::*;
-use crate::propagate::{clause_len, literal, start_of};
+use crate::scalar::Scalar;
 use crate::vsids::bump;
+use crate::watch::{literal_at, numbered, places};
 use crate::work::*;
 use formula::literal::{opposite, variable};
-
-// The scalars, by their place.
-const STAMP: u64 = 3;
-
-const LEARNED_LEN: u64 = 8;
-
-const OPEN: u64 = 9;
+use std::ops::Range;
 
 const MOST_STAMPS: u64 = 1 << 62;
 
-const MOST_VARS: u64 = 16384;
-
-const MOST_LEARNED: u64 = 16640;
-
 const MOST_OPEN: u64 = 65536;
 
-// Resolving stops when one literal of the level is left.
-const FIRST_POINT: u64 = 2;
+// How long the walk back resolves literals of the level by their reasons.
+#[derive(Clone, Copy)]
+pub(crate) enum Until {
+    // One is left, the first unique implication point.
+    FirstPoint,
+    // Only decisions are left.
+    Decisions,
+}
+
+impl Until {
+    // Whether to go on while so many literals are still to come.
+    fn goes_on(self, left: u64) -> bool
+        ensures { result ≡ goes_on self left }
+    {
+        match self {
+            Until::FirstPoint => left >= 2,
+            Until::Decisions => true,
+        }
+    }
+}
 
 pub(crate) fn stamp(work: &[u64]) -> u64
     ensures { result ≡ stamp work.now }
 {
-    read(work, SCALARS, STAMP).min(MOST_STAMPS)
+    Scalar::Stamp.read(work).min(MOST_STAMPS)
 }
 
 pub(crate) fn is_marked(work: &[u64], var: u64) -> bool
     ensures { result ≡ is_marked work.now var }
 {
-    read(work, MARKS, var) == stamp(work)
+    MARKS.read(work, var) == stamp(work)
 }
 
 pub(crate) fn learned_len(work: &[u64]) -> u64
     ensures { result ≡ learned_len work.now }
 {
-    read(work, SCALARS, LEARNED_LEN).min(MOST_LEARNED)
+    Scalar::LearnedLen.read(work).min(MOST_LEARNED)
 }
 
 // So many marked literals of the level are still to come.
 fn open_count(work: &[u64]) -> u64
     ensures { result ≡ open_count work.now }
 {
-    read(work, SCALARS, OPEN).min(MOST_OPEN)
+    Scalar::OpenCount.read(work).min(MOST_OPEN)
 }
 
-pub(crate) fn reason(work: &[u64], lit: u64) -> u64
+// The clause by which a literal is true; none for a decision.
+pub(crate) fn reason(work: &[u64], lit: u64) -> Option<u64>
     ensures { result ≡ reason_of work.now lit }
 {
-    read(work, REASONS, variable(lit))
+    numbered(REASONS.read(work, variable(lit)))
 }
 
 // The literal comes into the clause.
@@ -68,15 +77,22 @@ pub(crate) fn push(work: &mut [u64], lit: u64)
     ensures { work.new ≡ push work.old lit }
 {
     let len = learned_len(work);
-    write(work, LEARNED_LITS, len, lit);
-    write(work, SCALARS, LEARNED_LEN, len + 1);
+    LEARNED_LITS.write(work, len, lit);
+    Scalar::LearnedLen.write(work, len + 1);
 }
 
-fn mark(work: &mut [u64], var: u64)
+pub(crate) fn mark(work: &mut [u64], var: u64)
     ensures { work.new ≡ with_mark work.old var }
 {
     let stamp = stamp(work);
-    write(work, MARKS, var, stamp);
+    MARKS.write(work, var, stamp);
+}
+
+// A variable that is marked had a part in the conflict.
+fn involve(work: &mut [u64], var: u64)
+    ensures { work.new ≡ involved work.old var }
+{
+    mark(work, var);
     bump(work, var);
 }
 
@@ -87,6 +103,7 @@ fn is_settled(work: &[u64], lit: u64) -> bool
 }
 
 // A false literal of a clause that is taken in.
+#[tactic(auto, unfolding(crate::specs::Analysis::mark_one))]
 pub(crate) fn mark_one(work: &mut [u64], level: u64, lit: u64)
     ensures { work.new ≡ mark_one level work.old lit }
 {
@@ -95,10 +112,10 @@ pub(crate) fn mark_one(work: &mut [u64], level: u64, lit: u64)
     }
     if level <= lit_level(work, lit) {
         let open = open_count(work);
-        mark(work, variable(lit));
-        write(work, SCALARS, OPEN, open + 1);
+        involve(work, variable(lit));
+        Scalar::OpenCount.write(work, open + 1);
     } else {
-        mark(work, variable(lit));
+        involve(work, variable(lit));
         push(work, lit);
     }
 }
@@ -107,75 +124,70 @@ pub(crate) fn mark_one(work: &mut [u64], level: u64, lit: u64)
 fn mark_clause(work: &mut [u64], level: u64, clause: u64)
     ensures { work.new ≡ mark_clause level work.old clause }
 {
-    let start = start_of(work, clause);
-    let len = clause_len(work, clause);
-    for i in 0..len {
-        let lit = literal(work, start + i);
+    for place in places(work, clause) {
+        let lit = literal_at(work, place);
         mark_one(work, level, lit);
     }
 }
 
-fn resolves(work: &[u64], keep: u64, lit: u64) -> bool
-    ensures { result ≡ resolves keep work.now lit }
+// The reason by which a literal is resolved, if it is.
+fn resolving(work: &[u64], until: Until, lit: u64) -> Option<u64>
+    ensures { result ≡ resolving until work.now lit }
 {
-    keep <= open_count(work) && 0 < reason(work, lit)
+    if until.goes_on(open_count(work)) {
+        reason(work, lit)
+    } else {
+        None
+    }
 }
 
 // A literal of the trail, resolved by its reason or said in the clause if it is marked.
-fn resolve(work: &mut [u64], level: u64, keep: u64, lit: u64)
-    ensures { work.new ≡ resolve level keep work.old lit }
+#[tactic(auto, unfolding(crate::specs::Analysis::resolve))]
+fn resolve(work: &mut [u64], level: u64, until: Until, lit: u64)
+    ensures { work.new ≡ resolve level until work.old lit }
 {
     if !is_marked(work, variable(lit)) {
         return;
     }
-    let reason = reason(work, lit);
-    let by_reason = resolves(work, keep, lit);
+    let by = resolving(work, until, lit);
     let open = open_count(work).saturating_sub(1);
-    write(work, SCALARS, OPEN, open);
-    if by_reason {
-        mark_clause(work, level, reason);
-    } else {
-        push(work, opposite(lit));
+    Scalar::OpenCount.write(work, open);
+    match by {
+        Some(clause) => mark_clause(work, level, clause),
+        None => push(work, opposite(lit)),
     }
 }
 
 // The trail from its end down, as long as the level is high enough.
-pub(crate) fn walk_back(work: &mut [u64], level: u64, keep: u64)
-    ensures { work.new ≡ walk_back (size_of work.old) level keep work.old }
+#[tactic(auto, using(crate::proofs::Trails::walking_back))]
+pub(crate) fn walk_back(work: &mut [u64], level: u64, until: Until)
+    ensures { work.new ≡ walk_back (size_of work.old) level until work.old }
 {
-    let size = trail_size(work);
-    for i in 0..size {
-        let lit = trail_lit(work, size - 1 - i);
+    for place in (0..trail_size(work)).rev() {
+        let lit = trail_lit(work, place);
         if lit_level(work, lit) < level {
             return;
         }
-        resolve(work, level, keep, lit);
+        resolve(work, level, until, lit);
     }
 }
 
-fn higher(work: &[u64], lit: u64, level: u64) -> u64
-    ensures { result ≡ pick (nat_lt level (lit_level work.now lit)) (lit_level work.now lit) level }
+// The highest level of a table's literals at these places.
+fn highest_level(work: &[u64], table: Table, places: Range<u64>) -> u64
+    ensures { result ≡ highest table (places.end - places.start) places.start work.now }
 {
-    level.max(lit_level(work, lit))
+    places.fold(
+        0,
+        |level, place| lit_level(work, table.read(work, place)).max(level),
+    )
 }
 
-// The highest level of so many literals of a table.
-fn highest_level(work: &[u64], table: Table, count: u64, place: u64) -> u64
-    requires { (table.start + table.len ≤ 423680) × (count + place ≤ 1048576) }
-    ensures { result ≡ highest table count place work.now 0 }
-{
-    let mut level = 0;
-    for i in 0..count {
-        level = higher(work, read(work, table, place + i), level);
-    }
-    level
-}
-
+#[tactic(auto, using(crate::proofs::Loops::looping))]
 fn clear_marks(work: &mut [u64])
-    ensures { work.new ≡ cleared_marks 16384 0 work.old }
+    ensures { work.new ≡ cleared_marks work.old }
 {
     for var in 0..MOST_VARS {
-        write(work, MARKS, var, 0);
+        MARKS.write(work, var, 0);
     }
 }
 
@@ -185,10 +197,10 @@ fn next_stamp(work: &mut [u64])
 {
     let stamp = stamp(work);
     if stamp < MOST_STAMPS {
-        write(work, SCALARS, STAMP, stamp + 1);
+        Scalar::Stamp.write(work, stamp + 1);
     } else {
         clear_marks(work);
-        write(work, SCALARS, STAMP, 1);
+        Scalar::Stamp.write(work, 1);
     }
 }
 
@@ -196,30 +208,31 @@ pub(crate) fn start(work: &mut [u64])
     ensures { work.new ≡ started work.old }
 {
     next_stamp(work);
-    write(work, SCALARS, LEARNED_LEN, 0);
-    write(work, SCALARS, OPEN, 0);
+    Scalar::LearnedLen.write(work, 0);
+    Scalar::OpenCount.write(work, 0);
 }
 
 // The highest level of a clause's literals.
 pub(crate) fn clause_level(work: &[u64], clause: u64) -> u64
     ensures { result ≡ clause_level work.now clause }
 {
-    highest_level(work, LITS, clause_len(work, clause), start_of(work, clause))
+    highest_level(work, LITS, places(work, clause))
 }
 
 // From a false clause back over the trail.
-fn analyze(work: &mut [u64], level: u64, keep: u64, clause: u64)
-    ensures { work.new ≡ analyzed level keep work.old clause }
+#[tactic(auto, unfolding(crate::specs::Analysis::analyzed))]
+fn analyze(work: &mut [u64], level: u64, clause: u64)
+    ensures { work.new ≡ analyzed level work.old clause }
 {
     start(work);
     mark_clause(work, level, clause);
-    walk_back(work, level, keep);
+    walk_back(work, level, Until::FirstPoint);
 }
 
 pub(crate) fn learned_lit(work: &[u64], place: u64) -> u64
     ensures { result ≡ learned_lit work.now place }
 {
-    read(work, LEARNED_LITS, place)
+    LEARNED_LITS.read(work, place)
 }
 
 pub(crate) fn swap(work: &mut [u64], place: u64, other: u64)
@@ -227,8 +240,8 @@ pub(crate) fn swap(work: &mut [u64], place: u64, other: u64)
 {
     let first = learned_lit(work, place);
     let second = learned_lit(work, other);
-    write(work, LEARNED_LITS, place, second);
-    write(work, LEARNED_LITS, other, first);
+    LEARNED_LITS.write(work, place, second);
+    LEARNED_LITS.write(work, other, first);
 }
 
 fn is_covered(work: &[u64], var: u64, lit: u64) -> bool
@@ -239,51 +252,46 @@ fn is_covered(work: &[u64], var: u64, lit: u64) -> bool
 
 // Whether the other literals of the variable's reason are in the clause, or false at the first level.
 fn all_covered(work: &[u64], clause: u64, var: u64) -> bool
-    ensures { result ≡ all_covered (len_of work.now clause) (start_of work.now clause) work.now var }
+    ensures { result ≡ all_covered work.now clause var }
 {
-    let start = start_of(work, clause);
-    for i in 0..clause_len(work, clause) {
-        if !is_covered(work, var, literal(work, start + i)) {
-            return false;
-        }
-    }
-    true
+    places(work, clause).all(|place| is_covered(work, var, literal_at(work, place)))
 }
 
 fn is_spare(work: &[u64], level: u64, lit: u64) -> bool
     ensures { result ≡ is_spare level work.now lit }
 {
-    let reason = reason(work, lit);
-    lit_level(work, lit) < level && (0 < reason && all_covered(work, reason, variable(lit)))
+    lit_level(work, lit) < level
+        && reason(work, lit).is_some_and(|clause| all_covered(work, clause, variable(lit)))
 }
 
 // A literal that has to stay, moved down; and how many there are by then.
 fn keep_needed(work: &mut [u64], level: u64, place: u64, len: u64) -> u64
     requires { len ≤ 16640 }
-    ensures after { work.new ≡ pick (is_spare level work.old (learned_lit work.old place)) work.old (put learned_lits work.old len (learned_lit work.old place)) }
-    ensures count { result ≡ pick (is_spare level work.old (learned_lit work.old place)) len (len + 1) }
+    ensures gives { Gives (keep_needed level (outcome work.old len) place) work.new result }
+    ensures bound { result ≤ len + 1 }
 {
     let lit = learned_lit(work, place);
     if is_spare(work, level, lit) {
         return len;
     }
-    write(work, LEARNED_LITS, len, lit);
+    LEARNED_LITS.write(work, len, lit);
     len + 1
 }
 
 // The literals that have to stay, moved together.
+#[tactic(auto, using(crate::proofs::Loops::looping))]
 fn minimize(work: &mut [u64], level: u64)
-    ensures { work.new ≡ minimized (learned_len work.old) 0 0 level work.old }
+    ensures { work.new ≡ minimized level work.old }
 {
     let mut len: u64 = 0;
     for i in 0..learned_len(work) {
         len = keep_needed(work, level, i, len);
     }
-    write(work, SCALARS, LEARNED_LEN, len);
+    Scalar::LearnedLen.write(work, len);
 }
 
 fn higher_place(work: &[u64], best: u64, place: u64) -> u64
-    ensures { result ≡ pick (nat_lt (lit_level work.now (learned_lit work.now best)) (lit_level work.now (learned_lit work.now place))) place best }
+    ensures { result ≡ higher_place work.now best place }
 {
     if lit_level(work, learned_lit(work, best)) < lit_level(work, learned_lit(work, place)) {
         place
@@ -294,15 +302,12 @@ fn higher_place(work: &[u64], best: u64, place: u64) -> u64
 
 // The place of a literal of the highest level but the first.
 fn peak(work: &[u64]) -> u64
-    ensures { result ≡ peak (learned_len work.now - 1) 1 work.now 1 }
+    ensures { result ≡ peak work.now }
 {
-    let mut best: u64 = 1;
-    for i in 0..learned_len(work).saturating_sub(1) {
-        best = higher_place(work, best, 1 + i);
-    }
-    best
+    (1..learned_len(work)).fold(1, |best, place| higher_place(work, best, place))
 }
 
+#[tactic(auto, unfolding(crate::specs::Analysis::second_highest))]
 fn put_second(work: &mut [u64])
     ensures { work.new ≡ second_highest work.old }
 {
@@ -320,11 +325,12 @@ fn put_last_first(work: &mut [u64])
 }
 
 // The clause that is learned from a false one.
+#[tactic(auto, unfolding(crate::specs::Learning::lesson))]
 pub(crate) fn analyze_conflict(work: &mut [u64], clause: u64)
     ensures { work.new ≡ lesson work.old clause }
 {
     let level = clause_level(work, clause);
-    analyze(work, level, FIRST_POINT, clause);
+    analyze(work, level, clause);
     put_last_first(work);
     minimize(work, level);
     put_second(work);
@@ -334,5 +340,5 @@ pub(crate) fn analyze_conflict(work: &mut [u64], clause: u64)
 pub(crate) fn jump_level(work: &[u64]) -> u64
     ensures { result ≡ jump_level work.now }
 {
-    highest_level(work, LEARNED_LITS, learned_len(work).saturating_sub(1), 1)
+    highest_level(work, LEARNED_LITS, 1..learned_len(work))
 }

@@ -3,18 +3,10 @@
 ghost use Rattle.std.specs.Prelude.{◌≡◌, ◌+◌, ◌-◌, ◌%◌};
 ghost use Rattle.cdcl.specs.Assignment.{size_of, queue_of, level_of, with_queue, is_true, is_false, lit_level, trail_lit, assigned, enqueue, deeper, last_lit, popped, is_above, cut, backjump};
 
+use crate::scalar::Scalar;
 use crate::vsids::heap_insert;
 use crate::work::*;
 use formula::literal::{is_negated, opposite, variable};
-
-// The scalars, by their place.
-const SIZE: u64 = 0;
-
-const QUEUE: u64 = 1;
-
-const LEVEL: u64 = 2;
-
-const MOST_VARS: u64 = 16384;
 
 const MOST_LEVELS: u64 = 17408;
 
@@ -28,32 +20,32 @@ const NONE: u64 = 0;
 pub(crate) fn trail_size(work: &[u64]) -> u64
     ensures { result ≡ size_of work.now }
 {
-    read(work, SCALARS, SIZE).min(MOST_VARS)
+    Scalar::TrailSize.read(work).min(MOST_VARS)
 }
 
 // So many literals of the trail have been propagated.
 pub(crate) fn queue(work: &[u64]) -> u64
     ensures { result ≡ queue_of work.now }
 {
-    read(work, SCALARS, QUEUE).min(MOST_VARS)
+    Scalar::Queue.read(work).min(MOST_VARS)
 }
 
 pub(crate) fn set_queue(work: &mut [u64], queue: u64)
     ensures { work.new ≡ with_queue work.old queue }
 {
-    write(work, SCALARS, QUEUE, queue)
+    Scalar::Queue.write(work, queue)
 }
 
 pub(crate) fn level(work: &[u64]) -> u64
     ensures { result ≡ level_of work.now }
 {
-    read(work, SCALARS, LEVEL).min(MOST_LEVELS)
+    Scalar::Level.read(work).min(MOST_LEVELS)
 }
 
 pub(crate) fn trail_lit(work: &[u64], place: u64) -> u64
     ensures { result ≡ trail_lit work.now place }
 {
-    read(work, TRAIL, place)
+    TRAIL.read(work, place)
 }
 
 // The value of a variable that makes the literal true.
@@ -66,7 +58,7 @@ fn value_for(lit: u64) -> u64
 pub(crate) fn is_true(work: &[u64], lit: u64) -> bool
     ensures { result ≡ is_true work.now lit }
 {
-    read(work, VALUES, variable(lit)) == value_for(lit)
+    VALUES.read(work, variable(lit)) == value_for(lit)
 }
 
 pub(crate) fn is_false(work: &[u64], lit: u64) -> bool
@@ -78,26 +70,26 @@ pub(crate) fn is_false(work: &[u64], lit: u64) -> bool
 pub(crate) fn lit_level(work: &[u64], lit: u64) -> u64
     ensures { result ≡ lit_level work.now lit }
 {
-    read(work, LEVELS, variable(lit))
+    LEVELS.read(work, variable(lit))
 }
 
-fn assign(work: &mut [u64], lit: u64, reason: u64)
+fn assign(work: &mut [u64], lit: u64, reason: Option<u64>)
     ensures { work.new ≡ assigned work.old lit reason }
 {
     let level = level(work);
-    write(work, VALUES, variable(lit), value_for(lit));
-    write(work, LEVELS, variable(lit), level);
-    write(work, REASONS, variable(lit), reason);
+    VALUES.write(work, variable(lit), value_for(lit));
+    LEVELS.write(work, variable(lit), level);
+    REASONS.write(work, variable(lit), reason.unwrap_or(0));
 }
 
-// The literal becomes true, at the level now.
-pub(crate) fn enqueue(work: &mut [u64], lit: u64, reason: u64)
+// The literal becomes true, at the level now, by a clause or decided.
+pub(crate) fn enqueue(work: &mut [u64], lit: u64, reason: Option<u64>)
     ensures { work.new ≡ enqueue work.old lit reason }
 {
     let size = trail_size(work);
     assign(work, lit, reason);
-    write(work, TRAIL, size, lit);
-    write(work, SCALARS, SIZE, size + 1);
+    TRAIL.write(work, size, lit);
+    Scalar::TrailSize.write(work, size + 1);
 }
 
 fn is_above(work: &[u64], to: u64) -> bool
@@ -112,10 +104,11 @@ fn last_lit(work: &[u64]) -> u64
     trail_lit(work, trail_size(work).saturating_sub(1))
 }
 
+// 1 if the variable is true by the literal.
 fn phase_of(lit: u64) -> u64
     ensures { result ≡ 1 - lit % 2 }
 {
-    if is_negated(lit) { 0 } else { 1 }
+    u64::from(!is_negated(lit))
 }
 
 // The last literal loses its value.
@@ -124,17 +117,18 @@ fn pop(work: &mut [u64])
 {
     let lit = last_lit(work);
     let size = trail_size(work);
-    write(work, SCALARS, SIZE, size.saturating_sub(1));
-    write(work, VALUES, variable(lit), NONE);
-    write(work, PHASES, variable(lit), phase_of(lit));
+    Scalar::TrailSize.write(work, size.saturating_sub(1));
+    VALUES.write(work, variable(lit), NONE);
+    PHASES.write(work, variable(lit), phase_of(lit));
     heap_insert(work, variable(lit));
 }
 
 // All literals of higher levels lose their values.
+#[tactic(auto, using(crate::proofs::Trails::cutting))]
 fn cut(work: &mut [u64], to: u64)
     ensures { work.new ≡ cut (size_of work.old) work.old to }
 {
-    for _i in 0..trail_size(work) {
+    for _ in 0..trail_size(work) {
         if !is_above(work, to) {
             return;
         }
@@ -149,7 +143,7 @@ pub(crate) fn backjump(work: &mut [u64], to: u64)
     cut(work, to);
     let size = trail_size(work);
     set_queue(work, size);
-    write(work, SCALARS, LEVEL, to);
+    Scalar::Level.write(work, to);
 }
 
 // A level more, with no literal yet.
@@ -157,5 +151,5 @@ pub(crate) fn go_deeper(work: &mut [u64])
     ensures { work.new ≡ deeper work.old }
 {
     let next = level(work) + 1;
-    write(work, SCALARS, LEVEL, next);
+    Scalar::Level.write(work, next);
 }

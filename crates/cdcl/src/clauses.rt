@@ -1,25 +1,20 @@
 // Clauses added: what is learned gets the next number, and its first two literals are watched.
 // Each function promises just what its definition says, on any table.
-ghost use Rattle.std.specs.Prelude.{◌≡◌, ◌+◌, ◌*◌, ◌<◌, ◌≤◌};
-ghost use Rattle.cdcl.specs.Analysis.{learned_len};
+ghost use Rattle.std.specs.Prelude.{◌≡◌, ◌<◌, ◌≤◌};
 ghost use Rattle.cdcl.specs.Clauses.{num_clauses, next_clause, has_room, copied, stored, watched, attached};
 
 use crate::analyze_conflict::{learned_len, learned_lit};
-use crate::propagate::{lit_spot, literal, slot_at, start_of};
+use crate::scalar::Scalar;
+use crate::watch::*;
 use crate::work::*;
 
-const NUM_CLAUSES: u64 = 4;
-
-const MOST_CLAUSES: u64 = 20478;
-
-const MOST_LITS: u64 = 106752;
-
-const SLOT_LINKS: u64 = 32768;
+// Numbers begin at 1, and where a clause ends the next begins.
+const MOST_CLAUSES: u64 = CLAUSE_NUMBERS - 2;
 
 fn num_clauses(work: &[u64]) -> u64
     ensures { result ≡ num_clauses work.now }
 {
-    read(work, SCALARS, NUM_CLAUSES).min(MOST_CLAUSES)
+    Scalar::NumClauses.read(work).min(MOST_CLAUSES)
 }
 
 // The number of the next clause.
@@ -38,17 +33,19 @@ pub(crate) fn has_room(work: &[u64]) -> bool
         && start_of(work, next_clause(work)) + learned_len(work) <= MOST_LITS
 }
 
+#[tactic(auto, using(crate::proofs::Loops::looping))]
 fn copy_learned(work: &mut [u64], start: u64)
     requires { start ≤ 106752 }
-    ensures { work.new ≡ copied (learned_len work.old) 0 start work.old }
+    ensures { work.new ≡ copied start work.old }
 {
     for i in 0..learned_len(work) {
         let lit = learned_lit(work, i);
-        write(work, LITS, start + i, lit);
+        LITS.write(work, start + i, lit);
     }
 }
 
 // What is learned becomes the next clause.
+#[tactic(auto, unfolding(crate::specs::Clauses::stored))]
 pub(crate) fn store_learned(work: &mut [u64])
     ensures { work.new ≡ stored work.old }
 {
@@ -56,25 +53,24 @@ pub(crate) fn store_learned(work: &mut [u64])
     let start = start_of(work, clause);
     let end = start + learned_len(work);
     copy_learned(work, start);
-    write(work, STARTS, clause + 1, end);
-    write(work, SCALARS, NUM_CLAUSES, clause);
+    STARTS.write(work, clause + 1, end);
+    Scalar::NumClauses.write(work, clause);
 }
 
-fn watch(work: &mut [u64], slot: u64)
-    requires { slot < 40960 }
+fn watch(work: &mut [u64], slot: Slot)
     ensures { work.new ≡ watched work.old slot }
 {
-    let lit = literal(work, lit_spot(work, slot));
+    let lit = slot.literal(work);
     let first = slot_at(work, lit);
-    write(work, LINKS, SLOT_LINKS + slot, first);
-    write(work, LINKS, lit, slot);
+    put_in_front(work, lit, slot, first);
 }
 
 // The first two literals of a clause are watched.
+#[tactic(auto, unfolding(crate::specs::Clauses::attached))]
 pub(crate) fn attach(work: &mut [u64], clause: u64)
     requires { clause < 20480 }
     ensures { work.new ≡ attached work.old clause }
 {
-    watch(work, 2 * clause);
-    watch(work, 2 * clause + 1);
+    watch(work, Slot::of(clause, 0));
+    watch(work, Slot::of(clause, 1));
 }

@@ -1,19 +1,18 @@
 // The next decision: the heaviest variable without a value, with the value that it had last.
 // Each function promises just what its definition says, on any table.
 ghost use Rattle.std.specs.Prelude.{◌≡◌, ◌<◌, IfSome};
+ghost use Rattle.cdcl.specs.Work.{Gives};
 ghost use Rattle.cdcl.specs.Deciding.{has_value, is_free, heaviest, first_free, phase_lit, decided};
 
 use crate::assignment::*;
 use crate::vsids::{heap_at, heap_len, heap_pop};
 use crate::work::*;
-
-// No more can come out of the heap.
-const MOST_VARS: u64 = 16384;
+use formula::literal::literal;
 
 fn has_value(work: &[u64], var: u64) -> bool
     ensures { result ≡ has_value work.now var }
 {
-    let value = read(work, VALUES, var);
+    let value = VALUES.read(work, var);
     value == TRUE || value == FALSE
 }
 
@@ -24,12 +23,12 @@ fn is_free(work: &[u64], num_vars: u64, var: u64) -> bool
 }
 
 // The heaviest of so many variables that has no value, taken out of the heap.
+#[tactic(auto, using(crate::proofs::Decisions::choosing))]
 pub(crate) fn heaviest(work: &mut [u64], num_vars: u64) -> Option<u64>
-    ensures after { work.new ≡ (heaviest 16384 num_vars work.old).after }
-    ensures var { result ≡ (heaviest 16384 num_vars work.old).var }
+    ensures gives { Gives (heaviest 16384 num_vars work.old) work.new result }
     ensures bound { IfSome result (λ v. v < num_vars) }
 {
-    for _i in 0..MOST_VARS {
+    for _ in 0..MOST_VARS {
         if heap_len(work) == 0 {
             return None;
         }
@@ -45,15 +44,10 @@ pub(crate) fn heaviest(work: &mut [u64], num_vars: u64) -> Option<u64>
 
 // The first of so many variables that has no value.
 pub(crate) fn first_free(work: &[u64], num_vars: u64) -> Option<u64>
-    ensures var { result ≡ first_free num_vars 0 work.now }
+    ensures var { result ≡ first_free num_vars work.now }
     ensures bound { IfSome result (λ v. v < num_vars) }
 {
-    for var in 0..num_vars {
-        if !has_value(work, var) {
-            return Some(var);
-        }
-    }
-    None
+    (0..num_vars).find(|&var| !has_value(work, var))
 }
 
 // The literal of a variable by the value that it had last.
@@ -61,11 +55,7 @@ pub(crate) fn phase_literal(work: &[u64], var: u64) -> u64
     requires { var < 16384 }
     ensures { result ≡ phase_lit work.now var }
 {
-    if read(work, PHASES, var) == 1 {
-        2 * var
-    } else {
-        2 * var + 1
-    }
+    literal(var, PHASES.read(work, var) != 1)
 }
 
 // The literal becomes true on a level of its own.
@@ -73,5 +63,5 @@ pub(crate) fn decide(work: &mut [u64], lit: u64)
     ensures { work.new ≡ decided work.old lit }
 {
     go_deeper(work);
-    enqueue(work, lit, 0);
+    enqueue(work, lit, None);
 }

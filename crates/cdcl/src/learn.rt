@@ -33,7 +33,7 @@ fn keep_and_force(work: &mut [u64])
     let clause = next_clause(work);
     let lit = learned_lit(work, 0);
     keep(work);
-    enqueue(work, lit, clause);
+    enqueue(work, lit, Some(clause));
 }
 
 // A clause that has no room is forgotten.
@@ -46,6 +46,7 @@ fn take_lesson(work: &mut [u64])
 }
 
 // From a false clause to what is learned, back, and on.
+#[tactic(auto, unfolding(crate::specs::Learning::learn_from))]
 pub(crate) fn learn_from(work: &mut [u64], clause: u64)
     ensures { work.new ≡ learn_from work.old clause }
 {

@@ -10,6 +10,8 @@ mod decide;
 mod learn;
 pub mod load;
 mod propagate;
+mod scalar;
 pub mod turn;
 pub mod vsids;
+mod watch;
 mod work;

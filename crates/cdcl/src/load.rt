@@ -1,14 +1,13 @@
 // A clause of the formula taken in, at the first level: repeats dropped, tautologies left out, literals that aren't false first.
 // Each function promises just what its definition says, on any table.
-ghost use Rattle.std.specs.Prelude.{◌≡◌, ◌+◌, ◌≤◌, ◌==◌};
-ghost use Rattle.cdcl.specs.Analysis.{learned_lit};
-ghost use Rattle.cdcl.specs.Loading.{with_lit, repeats, collect, open_from, first_open, second_open, arranged, is_falsified, is_forced, taken_in, load};
+ghost use Rattle.std.specs.Prelude.{◌≡◌};
+ghost use Rattle.cdcl.specs.Work.{Gives};
+ghost use Rattle.cdcl.specs.Loading.{with_lit, repeats, collect, open_from, with_open_at, arranged, is_falsified, is_forced, taken_in, load};
 
 use crate::analyze_conflict::*;
 use crate::assignment::*;
 use crate::clauses::{has_room, next_clause};
 use crate::learn::{is_long, keep};
-use crate::work::*;
 use formula::literal::variable;
 
 // What became of a clause.
@@ -20,36 +19,24 @@ pub enum Loaded {
     NoRoom,
 }
 
-fn is_at(work: &[u64], place: u64, lit: u64) -> bool
-    ensures { result ≡ (learned_lit work.now place == lit) }
-{
-    learned_lit(work, place) == lit
-}
-
 // Whether the literal is among those collected.
 fn repeats(work: &[u64], lit: u64) -> bool
     ensures { result ≡ repeats work.now lit }
 {
-    for i in 0..learned_len(work) {
-        if is_at(work, i, lit) {
-            return true;
-        }
-    }
-    false
+    (0..learned_len(work)).any(|i| learned_lit(work, i) == lit)
 }
 
 fn add_literal(work: &mut [u64], lit: u64)
     ensures { work.new ≡ with_lit work.old lit }
 {
-    let stamp = stamp(work);
-    write(work, MARKS, variable(lit), stamp);
+    mark(work, variable(lit));
     push(work, lit);
 }
 
 // The literals of a clause, each once; true if one stands beside its other.
+#[tactic(auto, using(crate::proofs::Loads::collecting))]
 fn collect(work: &mut [u64], clause: &[u64]) -> bool
-    ensures after { work.new ≡ (collect work.old clause.now).after }
-    ensures tautology { result ≡ (collect work.old clause.now).tautology }
+    ensures { Gives (collect work.old clause.now) work.new result }
 {
     for lit in clause {
         if !is_marked(work, variable(*lit)) {
@@ -61,40 +48,28 @@ fn collect(work: &mut [u64], clause: &[u64]) -> bool
     false
 }
 
-// The first place, of so many, whose literal isn't false, or the place given.
-fn open_from(work: &[u64], count: u64, place: u64, otherwise: u64) -> u64
-    requires { count + place ≤ 1048576 }
-    ensures { result ≡ open_from count place otherwise work.now }
+// The first place from this one on whose literal isn't false.
+fn open_from(work: &[u64], place: u64) -> Option<u64>
+    ensures { result ≡ open_from place work.now }
 {
-    for i in 0..count {
-        if !is_false(work, learned_lit(work, place + i)) {
-            return place + i;
-        }
-    }
-    otherwise
+    (place..learned_len(work)).find(|&i| !is_false(work, learned_lit(work, i)))
 }
 
-fn put_first_open(work: &mut [u64])
-    ensures { work.new ≡ first_open work.old }
+// A literal that isn't false comes to the place, if there is one from there on.
+fn put_open(work: &mut [u64], place: u64)
+    ensures { work.new ≡ with_open_at place work.old }
 {
-    let place = open_from(work, learned_len(work), 0, 0);
-    swap(work, 0, place);
-}
-
-fn put_second_open(work: &mut [u64])
-    ensures { work.new ≡ second_open work.old }
-{
-    let place = open_from(work, learned_len(work).saturating_sub(1), 1, 1);
-    swap(work, 1, place);
+    let open = open_from(work, place).unwrap_or(place);
+    swap(work, place, open);
 }
 
 fn arrange(work: &mut [u64])
     ensures { work.new ≡ arranged work.old }
 {
     let long = is_long(work);
-    put_first_open(work);
+    put_open(work, 0);
     if long {
-        put_second_open(work);
+        put_open(work, 1);
     }
 }
 
@@ -112,9 +87,9 @@ fn is_forced(work: &[u64]) -> bool
 }
 
 // What is collected becomes the next clause.
+#[tactic(auto, unfolding(crate::specs::Loading::taken_in))]
 fn take_in(work: &mut [u64]) -> Loaded
-    ensures after { work.new ≡ (taken_in work.old).after }
-    ensures loaded { result ≡ (taken_in work.old).loaded }
+    ensures { Gives (taken_in work.old) work.new result }
 {
     if !has_room(work) {
         return Loaded::NoRoom;
@@ -128,15 +103,15 @@ fn take_in(work: &mut [u64]) -> Loaded
         return Loaded::False(clause);
     }
     if forced {
-        enqueue(work, first, clause);
+        enqueue(work, first, Some(clause));
     }
     Loaded::Kept
 }
 
 // A clause of the formula is taken in.
+#[tactic(auto, unfolding(crate::specs::Loading::load))]
 pub fn load(work: &mut [u64], clause: &[u64]) -> Loaded
-    ensures after { work.new ≡ (load work.old clause.now).after }
-    ensures loaded { result ≡ (load work.old clause.now).loaded }
+    ensures { Gives (load work.old clause.now) work.new result }
 {
     start(work);
     if collect(work, clause) {

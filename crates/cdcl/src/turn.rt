@@ -1,6 +1,7 @@
 // One turn of the search: propagation to its end, and then a clause learned, an assumption, a decision, or an answer.
 // Each function promises just what its definition says, on any table.
-ghost use Rattle.std.specs.Prelude.{◌≡◌, ◌<◌, ◌≤◌, min, ◌==◌};
+ghost use Rattle.std.specs.Prelude.{◌≡◌, ◌<◌, ◌≤◌, ◌==◌};
+ghost use Rattle.cdcl.specs.Work.{Gives};
 ghost use Rattle.cdcl.specs.Analysis.{clause_level};
 ghost use Rattle.cdcl.specs.Deciding.{phase_lit, decided};
 ghost use Rattle.cdcl.specs.Turning.{on_conflict, on_assumption, on_decision, on_quiet, turn};
@@ -9,10 +10,8 @@ use crate::analyze_conflict::clause_level;
 use crate::assignment::*;
 use crate::decide::*;
 use crate::learn::learn_from;
-use crate::propagate::propagate;
-use formula::table::get;
-
-const MOST_VARS: u64 = 16384;
+use crate::propagate::{Conflict, propagate};
+use crate::work::MOST_VARS;
 
 // What a turn came to.
 #[derive(Clone, Copy)]
@@ -32,9 +31,9 @@ fn is_first_level(work: &[u64], clause: u64) -> bool
     clause_level(work, clause) == 0
 }
 
+#[tactic(auto, unfolding(crate::specs::Turning::on_conflict))]
 fn on_conflict(work: &mut [u64], clause: u64) -> Turn
-    ensures after { work.new ≡ (on_conflict work.old clause).after }
-    ensures turn { result ≡ (on_conflict work.old clause).turn }
+    ensures { Gives (on_conflict work.old clause) work.new result }
 {
     if is_first_level(work, clause) {
         return Turn::No;
@@ -43,9 +42,9 @@ fn on_conflict(work: &mut [u64], clause: u64) -> Turn
     Turn::More
 }
 
+#[tactic(auto, unfolding(crate::specs::Turning::on_assumption))]
 fn on_assumption(work: &mut [u64], lit: u64) -> Turn
-    ensures after { work.new ≡ (on_assumption work.old lit).after }
-    ensures turn { result ≡ (on_assumption work.old lit).turn }
+    ensures { Gives (on_assumption work.old lit) work.new result }
 {
     if is_true(work, lit) {
         go_deeper(work);
@@ -66,42 +65,37 @@ fn decide_on(work: &mut [u64], var: u64)
     decide(work, lit);
 }
 
+#[tactic(auto, unfolding(crate::specs::Turning::on_decision))]
 fn on_decision(work: &mut [u64], num_vars: u64) -> Turn
     requires { num_vars ≤ 16384 }
-    ensures after { work.new ≡ (on_decision num_vars work.old).after }
-    ensures turn { result ≡ (on_decision num_vars work.old).turn }
+    ensures { Gives (on_decision num_vars work.old) work.new result }
 {
-    if let Some(var) = heaviest(work, num_vars) {
-        decide_on(work, var);
-        return Turn::More;
+    match heaviest(work, num_vars).or_else(|| first_free(work, num_vars)) {
+        Some(var) => {
+            decide_on(work, var);
+            Turn::More
+        }
+        None => Turn::Full,
     }
-    if let Some(var) = first_free(work, num_vars) {
-        decide_on(work, var);
-        return Turn::More;
-    }
-    Turn::Full
 }
 
 fn on_quiet(work: &mut [u64], assumptions: &[u64], num_vars: u64) -> Turn
     requires { num_vars ≤ 16384 }
-    ensures after { work.new ≡ (on_quiet assumptions.now num_vars work.old).after }
-    ensures turn { result ≡ (on_quiet assumptions.now num_vars work.old).turn }
+    ensures { Gives (on_quiet assumptions.now num_vars work.old) work.new result }
 {
-    let level = level(work);
-    if level < assumptions.len() as u64 {
-        return on_assumption(work, get(assumptions, level));
+    match assumptions.get(level(work) as usize) {
+        Some(&lit) => on_assumption(work, lit),
+        None => on_decision(work, num_vars),
     }
-    on_decision(work, num_vars)
 }
 
 // One turn, for the assumptions and so many variables.
+#[tactic(auto, unfolding(crate::specs::Turning::turn))]
 pub fn take_turn(work: &mut [u64], assumptions: &[u64], num_vars: u64) -> Turn
-    ensures after { work.new ≡ (turn assumptions.now num_vars work.old).after }
-    ensures turn { result ≡ (turn assumptions.now num_vars work.old).turn }
+    ensures { Gives (turn assumptions.now num_vars work.old) work.new result }
 {
-    let step = propagate(work);
-    if step.conflict != 0 {
-        return on_conflict(work, step.conflict);
+    if let Err(Conflict { clause }) = propagate(work) {
+        return on_conflict(work, clause);
     }
     on_quiet(work, assumptions, num_vars.min(MOST_VARS))
 }

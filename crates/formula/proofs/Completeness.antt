@@ -1,10 +1,10 @@
 -- That propagation is complete: if it ends with no conflict, what it took to be true is settled by the clauses. So a chain of forced literals that ends in a
 -- conflict shows that a clause follows by propagation.
 use Rattle.std.proofs.Common.{◌≡◌, ℕ, zero, suc, ◌<◌, ◌≤◌, Bool, true, false, not, ◌&&◌, eqb, ◌⊎◌, List, [], ◌∷◌, ◌++◌, length, sym, refl, ap, ◌∙◌, subst, inl, inr, arith}
-use Rattle.std.proofs.lemmas.Bool.{not-true, not_from_false, eqb-true, eq-eqb, and_parts, and_from}
+use Rattle.std.proofs.lemmas.Bool.{not-true, not_from_false, eqb-true, eq-eqb, and_parts, and_from, true_from_ne_false}
 use Rattle.formula.specs.Logic.{pick, or, every, any, those, each, none_of, has, other, Clause, false_by, open_of, conflict, all_equal, makes_unit, first_unit, refuted, by_propagation, added_up, how_large}
 use Rattle.formula.specs.Statements.{Resolves}
-use Rattle.formula.proofs.Rows.{clash, or_left, or_right, or_cases, or_parts, so_true, In, Sub, in_left, in_right, in_each, each_in, every_at, every_of, any_at, any_of, any_none, none_any, in_those, those_in, has_in, in_has, has_not, not_has}
+use Rattle.formula.proofs.Rows.{clash, or_left, or_right, or_cases, or_parts, In, Sub, in_left, in_right, in_each, each_in, every_at, every_of, any_at, any_of, any_none, none_any, in_those, those_in, has_in, in_has, has_not, not_has}
 use Rattle.formula.proofs.Soundness.{other_other, Settled, Found, unit_of, not_refuted}
 
 -- COUNTS
@@ -85,7 +85,7 @@ stopped ts cs u f n = record { no_clash = no; forced = yes₁ }
     no c i h = clash (conflict ts cs) (any_of (λ c. every (false_by ts) c) c cs i (every_of (false_by ts) c h)) f
 
     yes₁ : (c : Clause) (l : ℕ) → In c cs → ((k : ℕ) → In k c → (k ≡ l) ⊎ (has ts (other k) ≡ true)) → has ts l ≡ true
-    yes₁ c l i h = so_true (has ts l) (λ e. clash (makes_unit ts c) (and_from _ _ (not_from_false (any (has ts) c) (none_any (has ts) c (fresh e))) (all_equal_to l (open_of ts c) some same)) (no_units ts c cs u i))
+    yes₁ c l i h = true_from_ne_false (has ts l) (λ e. clash (makes_unit ts c) (and_from _ _ (not_from_false (any (has ts) c) (none_any (has ts) c (fresh e))) (all_equal_to l (open_of ts c) some same)) (no_units ts c cs u i))
       where
         fresh : has ts l ≡ false → (k : ℕ) → In k c → has ts k ≡ false
         fresh e k j = elim (h k j) [ inl p ↦ ap (has ts) p ∙ e | inr q ↦ not_has k ts (λ m. n k m (has_in (other k) ts q)) ]
@@ -95,7 +95,7 @@ stopped ts cs u f n = record { no_clash = no; forced = yes₁ }
             elim (h k r.0) [ inl p ↦ p | inr q ↦ clash (false_by ts k) q (not-true (false_by ts k) r.1) ]
 
         some : open_of ts c ≡ [] → ⊥
-        some e = no c i (λ k j. so_true (has ts (other k)) (λ w. let x : In k (open_of ts c) = in_those (λ x. not (false_by ts x)) k c j (not_from_false (false_by ts k) w) in subst (λ (y : List ℕ). In k y) e x))
+        some e = no c i (λ k j. true_from_ne_false (has ts (other k)) (λ w. let x : In k (open_of ts c) = in_those (λ x. not (false_by ts x)) k c j (not_from_false (false_by ts k) w) in subst (λ (y : List ℕ). In k y) e x))
 
 -- propagation with fuel enough ends in a conflict, or in a settled row
 pub record Rest (cs : List Clause) (ts : List ℕ) : Type 0 where
@@ -126,7 +126,7 @@ complete cs c h = go (any (λ l. has c (other l)) c) refl
   where
     go : (b : Bool) → any (λ l. has c (other l)) c ≡ b → by_propagation cs c ≡ true
     go true e = or_left _ _ e
-    go false e = or_right (any (λ l. has c (other l)) c) _ (so_true (refuted (suc (how_large cs)) cs (each other c)) (λ f.
+    go false e = or_right (any (λ l. has c (other l)) c) _ (true_from_ne_false (refuted (suc (how_large cs)) cs (each other c)) (λ f.
         let r = settle (suc (how_large cs)) cs (each other c) (omega (arith, left_fits (each other c) cs)) apart f in
         h r.row (λ l i. r.more (other l) (in_each other l c i)) r.apart r.settled))
       where

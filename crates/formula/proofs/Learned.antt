@@ -1,10 +1,10 @@
 -- For a search that learns: clauses that are implied, learned clauses from marks and ranks, steps one after another, models and cores.
 use Rattle.std.proofs.Common.{◌≡◌, ℕ, zero, suc, ◌<◌, Bool, true, false, not, ◌⊎◌, List, [], ◌∷◌, ◌++◌, sym, refl, ap, ◌∙◌, subst, inl, inr, arith}
 use mathlib.Core.Bool.{false≢true}
-use Rattle.std.proofs.lemmas.Bool.{and_parts, and_from}
+use Rattle.std.proofs.lemmas.Bool.{and_parts, and_from, false_from_ne_true}
 use Rattle.formula.specs.Logic.{pick, or, any, each, has, other, Clause, Truth, truth_of, true_in, clause_true, all_true, CannotBe, units, by_propagation, same_row, Step, adds, deletes, without, holds, has_empty}
 use Rattle.formula.specs.Statements.{PropagationSound}
-use Rattle.formula.proofs.Rows.{clash, so_false, In, in_left, in_right, in_each, each_in, every_at, every_of, any_at, has_in, in_has}
+use Rattle.formula.proofs.Rows.{clash, In, in_left, in_right, in_each, each_in, every_at, every_of, any_at, has_in, in_has}
 use Rattle.formula.proofs.Soundness.{true_other, clause_of, Settled, propagation_sound, without_sub}
 use Rattle.formula.proofs.Completeness.{Consistent, complete, forced_in, clash_in}
 
@@ -21,12 +21,12 @@ implied_by cs ds c h e t a = propagation_sound ds c t e (every_of (clause_true t
 
 pub implied_empty : (cs : List Clause) → Implied cs [] → CannotBe cs
 unfolding CannotBe any
-implied_empty cs h t = so_false (all_true t cs) (λ a. false≢true (h t a))
+implied_empty cs h t = false_from_ne_true (all_true t cs) (λ a. false≢true (h t a))
 
 -- A CORE: the others of some literals, as a clause that's implied
 pub implied_core : (cs : List Clause) (ks : List ℕ) → Implied cs (each other ks) → CannotBe (cs ++ units ks)
 unfolding CannotBe any
-implied_core cs ks h t = so_false (all_true t (cs ++ units ks)) bad
+implied_core cs ks h t = false_from_ne_true (all_true t (cs ++ units ks)) bad
   where
     bad : all_true t (cs ++ units ks) ≡ true → ⊥
     bad a =

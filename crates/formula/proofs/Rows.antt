@@ -1,7 +1,8 @@
 -- Tests, and what stands in a list: `In`, and what `every`, `any`, `those`, `each` and `has` say of it.
-use Rattle.std.proofs.Common.{◌≡◌, ℕ, zero, suc, ◌+◌, ◌<◌, ◌≤◌, Bool, true, false, ◌&&◌, eqb, ◌⊎◌, List, [], ◌∷◌, ◌++◌, length, get_or, drop, sym, refl, ap, ◌∙◌, subst, inl, inr, true≢false, add-one, arith, drop-cons}
+use Rattle.std.proofs.Common.{◌≡◌, ℕ, Bool, true, false, eqb, ◌⊎◌, List, [], ◌∷◌, ◌++◌, sym, refl, ap, ◌∙◌, subst, inl, inr, true≢false, arith}
 use mathlib.Core.Bool.{false≢true}
-use Rattle.std.proofs.lemmas.Bool.{eqb-true, eq-eqb, and_cases}
+use Rattle.std.proofs.lemmas.Bool.{eqb-true, eq-eqb, and_cases, false_from_ne_true}
+use Rattle.std.specs.List.{list_any, list_all}
 use Rattle.formula.specs.Logic.{or, every, any, those, each, has}
 
 -- TESTS
@@ -20,12 +21,6 @@ or_cases false b e = inr e
 
 pub or_parts : (a b : Bool) → or a b ≡ false → (a ≡ false) × (b ≡ false)
 or_parts a b e = grind arith
-
-pub so_false : (b : Bool) → (b ≡ true → ⊥) → b ≡ false
-so_false b f = grind arith
-
-pub so_true : (b : Bool) → (b ≡ false → ⊥) → b ≡ true
-so_true b f = grind arith
 
 -- STANDING IN A LIST
 abbrev pub In : {A : Type 0} → A → List A → Type 0
@@ -93,7 +88,7 @@ pub any_none : {A : Type 0} (f : A → Bool) (x : A) (xs : List A) → any f xs 
 any_none f x xs e i = let h = any_of f x xs i in grind arith
 
 pub none_any : {A : Type 0} (f : A → Bool) (xs : List A) → ((x : A) → In x xs → f x ≡ false) → any f xs ≡ false
-none_any f xs h = so_false (any f xs) (λ e. let r = any_at f xs e in clash (f r.0) r.2 (h r.0 r.1))
+none_any f xs h = false_from_ne_true (any f xs) (λ e. let r = any_at f xs e in clash (f r.0) r.2 (h r.0 r.1))
 
 -- THOSE
 pub in_those : {A : Type 0} (f : A → Bool) (x : A) (xs : List A) → In x xs → f x ≡ true → In x (those f xs)
@@ -118,29 +113,20 @@ pub has_not : (k : ℕ) (ks : List ℕ) → has ks k ≡ false → In k ks → �
 has_not k ks e i = clash (has ks k) (in_has k ks i) e
 
 pub not_has : (k : ℕ) (ks : List ℕ) → (In k ks → ⊥) → has ks k ≡ false
-not_has k ks h = so_false (has ks k) (λ e. h (has_in k ks e))
+not_has k ks h = false_from_ne_true (has ks k) (λ e. h (has_in k ks e))
 
--- FROM A PLACE ON
--- one place further
-pub any_drop : {A : Type 0} (f : A → Bool) (xs : List A) (i : ℕ) (d : A) → i < length xs → any f (drop i xs) ≡ or (f (get_or xs i d)) (any f (drop (i + 1) xs))
+-- IN STD'S WORDS
+pub any_is_list_any : {A : Type 0} (f : A → Bool) (xs : List A) → list_any f xs ≡ any f xs
 unfolding any
-any_drop f xs i d h = rw (add-one, drop-cons xs i d h)
+any_is_list_any f [] = refl
+any_is_list_any f (x ∷ xs) = let ih = any_is_list_any f xs in grind arith
 
-pub every_drop : {A : Type 0} (f : A → Bool) (xs : List A) (i : ℕ) (d : A) → i < length xs → every f (drop i xs) ≡ (f (get_or xs i d) && every f (drop (i + 1) xs))
+pub every_is_list_all : {A : Type 0} (f : A → Bool) (xs : List A) → list_all f xs ≡ every f xs
 unfolding every
-every_drop f xs i d h = rw (add-one, drop-cons xs i d h)
+every_is_list_all f [] = refl
+every_is_list_all f (x ∷ xs) = let ih = every_is_list_all f xs in grind arith
 
--- past the end
-pub any_drop_end : {A : Type 0} (f : A → Bool) (xs : List A) (i : ℕ) → length xs ≤ i → any f (drop i xs) ≡ false
+pub has_is_contains : (k : ℕ) (xs : List ℕ) → list_any (λ x. eqb x k) xs ≡ has xs k
 unfolding any
-any_drop_end f [] zero h = refl
-any_drop_end f [] (suc i) h = refl
-any_drop_end f (x ∷ xs) zero h = absurd (omega arith)
-any_drop_end f (x ∷ xs) (suc i) h = any_drop_end f xs i (omega arith)
-
-pub every_drop_end : {A : Type 0} (f : A → Bool) (xs : List A) (i : ℕ) → length xs ≤ i → every f (drop i xs) ≡ true
-unfolding every
-every_drop_end f [] zero h = refl
-every_drop_end f [] (suc i) h = refl
-every_drop_end f (x ∷ xs) zero h = absurd (omega arith)
-every_drop_end f (x ∷ xs) (suc i) h = every_drop_end f xs i (omega arith)
+has_is_contains k [] = refl
+has_is_contains k (x ∷ xs) = let ih = has_is_contains k xs in grind arith

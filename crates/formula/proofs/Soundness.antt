@@ -1,17 +1,14 @@
 -- What's true of a literal and its other; that propagation and proofs are sound; that order, tautologies and such change nothing.
-use Rattle.std.proofs.Common.{◌≡◌, ℕ, zero, suc, ◌-◌, ◌/◌, ◌%◌, ◌<◌, Bool, true, false, not, eqb, ◌⊎◌, List, [], ◌∷◌, ◌++◌, take, sym, refl, ap, ◌∙◌, subst, inl, inr, arith}
+use Rattle.std.proofs.Common.{◌≡◌, ℕ, zero, suc, ◌%◌, ◌<◌, Bool, true, false, not, eqb, ◌⊎◌, List, [], ◌∷◌, ◌++◌, take, sym, refl, ap, ◌∙◌, subst, inl, inr, arith}
 use mathlib.Core.Bool.{false≢true}
-use Rattle.std.proofs.lemmas.Bool.{not-true, not_from_false, eqb-true, eq-eqb, and_parts, and_from}
+use Rattle.std.proofs.lemmas.Bool.{not-true, not_from_false, eqb-true, eq-eqb, and_parts, and_from, false_from_ne_true, true_from_ne_false}
 use Rattle.formula.specs.Logic.{pick, every, any, each, none_of, has, other, Truth, Clause, true_in, clause_true, all_true, CanBe, CannotBe, units, false_by, open_of, conflict, all_equal, makes_unit, first_unit, refuted, by_propagation, how_large, Step, adds, deletes, without, holds, has_empty}
 use Rattle.formula.specs.Statements.{PropagationSound, ProofSound, OrderFree, Tautology}
-use Rattle.formula.proofs.Rows.{clash, or_cases, so_false, so_true, In, Sub, in_left, in_right, in_cases, in_each, each_in, every_at, every_of, any_at, any_of, any_none, in_those, those_in, has_in}
+use Rattle.formula.proofs.Rows.{clash, or_cases, In, Sub, in_left, in_right, in_cases, in_each, each_in, every_at, every_of, any_at, any_of, any_none, in_those, those_in, has_in}
 
 -- A LITERAL AND ITS OTHER
 pub other_even : (l : ℕ) → l % 2 ≡ 0 → other l ≡ suc l
 other_even l e = rw (eq-eqb (l % 2) 0 e) refl
-
-pub other_odd : (l : ℕ) → l % 2 ≡ 1 → other l ≡ l - 1
-other_odd l e = rw e refl
 
 pub even_or_odd : (l : ℕ) → (l % 2 ≡ 0) ⊎ (l % 2 ≡ 1)
 even_or_odd l = go (l % 2) (omega arith)
@@ -23,12 +20,6 @@ even_or_odd l = go (l % 2) (omega arith)
 
 pub other_other : (l : ℕ) → other (other l) ≡ l
 other_other l = grind arith
-
-pub true_even : (t : Truth) (l : ℕ) → l % 2 ≡ 0 → true_in t l ≡ t (l / 2)
-true_even t l e = rw e refl
-
-pub true_odd : (t : Truth) (l : ℕ) → l % 2 ≡ 1 → true_in t l ≡ not (t (l / 2))
-true_odd t l e = rw e refl
 
 pub true_other : (t : Truth) (l : ℕ) → true_in t (other l) ≡ not (true_in t l)
 true_other t l = grind arith
@@ -149,7 +140,7 @@ propagation_sound cs c t h a = go (or_cases (any (λ l. has c (other l)) c) _ h)
   where
     go : (any (λ l. has c (other l)) c ≡ true) ⊎ (refuted (suc (how_large cs)) cs (each other c) ≡ true) → clause_true t c ≡ true
     go (inl e) = let r = any_at (λ l. has c (other l)) c e in taut_true t c r.0 r.1 (has_in (other r.0) c r.2)
-    go (inr e) = so_true (clause_true t c) (λ f. not_refuted cs (true_in t) (truth_settled cs t a) (suc (how_large cs)) (each other c)
+    go (inr e) = true_from_ne_false (clause_true t c) (λ f. not_refuted cs (true_in t) (truth_settled cs t a) (suc (how_large cs)) (each other c)
         (λ l i. let r = each_in other l c i in ap (true_in t) r.2 ∙ (true_other t r.0 ∙ ap not (any_none (true_in t) r.0 c f r.1))) e)
 
 pub without_sub : (c : Clause) (cs : List Clause) → Sub (without c cs) cs
@@ -173,11 +164,11 @@ proof_runs (deletes c ∷ ss) cs t h e a = proof_runs ss (without c cs) t h e (a
 
 pub proof_sound : ProofSound
 unfolding ProofSound CannotBe
-proof_sound cs ss h e t = so_false (all_true t cs) (proof_runs ss cs t h e)
+proof_sound cs ss h e t = false_from_ne_true (all_true t cs) (proof_runs ss cs t h e)
 
 pub tautology : Tautology
 unfolding Tautology CannotBe every
-tautology cs c l i j h t = so_false (all_true t cs) (λ a. clash (all_true t (c ∷ cs)) (and_from (clause_true t c) _ (taut_true t c l (has_in l c i) (has_in (other l) c j)) a) (h t))
+tautology cs c l i j h t = false_from_ne_true (all_true t cs) (λ a. clash (all_true t (c ∷ cs)) (and_from (clause_true t c) _ (taut_true t c l (has_in l c i) (has_in (other l) c j)) a) (h t))
 
 pub order_free : OrderFree
 unfolding OrderFree CanBe every
@@ -191,7 +182,7 @@ order_free cs ds c d p q = (λ m. (m.0, moved m.0 m.1), λ m. (m.0, and_from _ _
 -- what can't be with some of the assumptions can't be with all
 pub part_shows : (cs : List Clause) (as₁ ks : List ℕ) → every (has as₁) ks ≡ true → CannotBe (cs ++ units ks) → CannotBe (cs ++ units as₁)
 unfolding CannotBe
-part_shows cs as₁ ks p h t = so_false (all_true t (cs ++ units as₁)) (λ a. clash (all_true t (cs ++ units ks)) (all_sub t (cs ++ units as₁) (cs ++ units ks) sub a) (h t))
+part_shows cs as₁ ks p h t = false_from_ne_true (all_true t (cs ++ units as₁)) (λ a. clash (all_true t (cs ++ units ks)) (all_sub t (cs ++ units as₁) (cs ++ units ks) sub a) (h t))
   where
     sub : Sub (cs ++ units ks) (cs ++ units as₁)
     sub c i = elim (in_cases c cs (units ks) i) [

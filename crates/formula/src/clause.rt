@@ -1,5 +1,5 @@
 // Clauses in lent memory: rows of literals, and the place of one in a table as a value.
-ghost use Rattle.std.specs.Prelude.{◌≡◌, take, drop, ◌==◌};
+ghost use Rattle.std.specs.Prelude.{◌≡◌, take, drop};
 ghost use Rattle.std.proofs.lemmas.List.Edits.{sets};
 ghost use Rattle.formula.specs.Logic.{has};
 ghost use Rattle.formula.specs.Arena.{clause_row};
@@ -20,22 +20,11 @@ pub fn literals_at(table: &[u64], place: Place) -> &[u64]
     part(table, place.start, place.len)
 }
 
-fn is_literal(x: u64, lit: u64) -> bool
-    ensures { result ≡ (lit == x) }
-{
-    x == lit
-}
-
 // Whether a literal is in a clause.
 pub fn contains(clause: &[u64], lit: u64) -> bool
     ensures { result ≡ has clause.now lit }
 {
-    for x in clause {
-        if is_literal(*x, lit) {
-            return true;
-        }
-    }
-    false
+    clause.contains(&lit)
 }
 
 // The clause written at a place as its length and then its literals.

@@ -2,9 +2,9 @@
 -- so that what can't be true with some marks can't be with more.
 use Rattle.std.proofs.Common.{◌≡◌, ℕ, zero, suc, ◌<◌, Bool, true, false, eqb, List, [], ◌∷◌, ◌++◌, length, get_or, set, sym, refl, ◌∙◌, subst, inl, inr, arith, length-set}
 use Rattle.std.proofs.lemmas.List.{get_or-set_same, get_or-set_other}
-use Rattle.std.proofs.lemmas.Bool.{cases_eq, eq-eqb, eqb-true}
+use Rattle.std.proofs.lemmas.Bool.{cases_eq, eq-eqb, eqb-true, false_from_ne_true}
 use Rattle.formula.specs.Logic.{pick, every, units, has, Clause, Truth, all_true}
-use Rattle.formula.proofs.Rows.{clash, so_false, In, Sub, in_left, in_right, in_cases, in_each, each_in, every_of, in_has}
+use Rattle.formula.proofs.Rows.{clash, In, Sub, in_left, in_right, in_cases, in_each, each_in, every_of, in_has}
 use Rattle.formula.proofs.Soundness.{all_sub}
 use Rattle.search.specs.Plain.{marked}
 
@@ -57,7 +57,7 @@ marked_sub (k ∷ ks) (j ∷ ks₁) (a ∷ as₁) g l i = go (eqb k 1) refl i (m
 -- what can't be true with some marks can't be with more
 pub fails_grown : (t : Truth) (cs : List Clause) (ks ks₁ as₁ : List ℕ) → Grown ks ks₁ → all_true t (cs ++ units (marked ks as₁)) ≡ false → all_true t (cs ++ units (marked ks₁ as₁)) ≡ false
 fails_grown t cs ks ks₁ as₁ g h =
-    so_false (all_true t (cs ++ units (marked ks₁ as₁))) (λ a. clash (all_true t (cs ++ units (marked ks as₁))) (all_sub t (cs ++ units (marked ks₁ as₁)) (cs ++ units (marked ks as₁)) sub a) h)
+    false_from_ne_true (all_true t (cs ++ units (marked ks₁ as₁))) (λ a. clash (all_true t (cs ++ units (marked ks as₁))) (all_sub t (cs ++ units (marked ks₁ as₁)) (cs ++ units (marked ks as₁)) sub a) h)
   where
     sub : Sub (cs ++ units (marked ks as₁)) (cs ++ units (marked ks₁ as₁))
     sub c i = elim (in_cases c cs (units (marked ks as₁)) i) [

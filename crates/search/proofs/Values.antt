@@ -1,9 +1,9 @@
 -- Literals and clauses under the values in a table: what is false there is false in each truth that agrees with the values,
 -- and the row of the model's literals is a truth that agrees with all of them.
 use Rattle.std.proofs.Common.{◌≡◌, ℕ, zero, suc, ◌+◌, ◌*◌, ◌/◌, ◌<◌, ◌≤◌, true, false, not, eqb, ltb, ◌⊎◌, List, [], ◌∷◌, ◌++◌, sym, refl, subst, inl, inr, arith}
-use Rattle.std.proofs.lemmas.Bool.{cases_eq, ltb-true, and_parts, ne_eqb}
+use Rattle.std.proofs.lemmas.Bool.{cases_eq, ltb-true, and_parts, ne_eqb, false_from_ne_true}
 use Rattle.formula.specs.Logic.{every, any, units, Clause, Truth, true_in, clause_true, all_true, has, truth_of}
-use Rattle.formula.proofs.Rows.{clash, so_false, In, in_left, in_cases, each_in, every_at, every_of, every_not, any_at, any_of, any_none, none_any}
+use Rattle.formula.proofs.Rows.{clash, In, in_left, in_cases, each_in, every_at, every_of, every_not, any_at, any_of, any_none, none_any}
 use Rattle.search.specs.Ends.{row_below}
 use Rattle.search.specs.Plain.{value_of, lit_false, some_false, model_lit, model_row}
 
@@ -17,7 +17,7 @@ unfolding lit_false
 lit_false_in d w t l ag h = let p = and_parts _ _ h in let a = ag (l / 2) (ltb-true _ _ p.0) in grind arith
 
 pub clause_false_in : (t : Truth) (c : Clause) (cs : List Clause) → In c cs → clause_true t c ≡ false → all_true t cs ≡ false
-clause_false_in t c cs i e = so_false (all_true t cs) (λ a. clash (clause_true t c) (every_at (clause_true t) c cs a i) e)
+clause_false_in t c cs i e = false_from_ne_true (all_true t cs) (λ a. clash (clause_true t c) (every_at (clause_true t) c cs a i) e)
 
 pub some_false_in : (d : ℕ) (w : List ℕ) (t : Truth) (cs ds : List Clause) → Agrees t d w → some_false d w cs ≡ true → all_true t (cs ++ ds) ≡ false
 unfolding some_false

@@ -1,7 +1,6 @@
-use Rattle.std.proofs.Common.{◌≡◌, ◌-◌}
-use Rattle.cdcl.specs.Analysis.{cleared_marks}
+use Rattle.std.proofs.Common.{◌≡◌}
+use Rattle.cdcl.specs.Work.{put, for_each, marks}
 use Rattle.cdcl.proofs.analyze_conflict.clear_marks.Given as goal
 
--- what is left gives the whole
 abbrev pub invariant-loop-var : goal.invariant-loop-var
-invariant-loop-var l = cleared_marks (16384 - l.var) l.var l.work ≡ cleared_marks 16384 0 l.initial.work
+invariant-loop-var l = l.work ≡ for_each (λ x v. put marks x v 0) l.var l.initial.work

@@ -1,7 +1,7 @@
-use Rattle.std.proofs.Common.{◌≡◌, ◌+◌, ◌-◌}
-use Rattle.cdcl.specs.Analysis.{mark_lits, mark_clause}
+use Rattle.std.proofs.Common.{◌≡◌}
+use Rattle.std.specs.List.{fold}
+use Rattle.cdcl.specs.Analysis.{mark_at}
 use Rattle.cdcl.proofs.analyze_conflict.mark_clause.Given as goal
 
--- the literals that are left, taken in now, give the whole
-abbrev pub invariant-loop-i : goal.invariant-loop-i
-invariant-loop-i l = mark_lits (l.len - l.i) (l.start + l.i) l.level l.work ≡ mark_clause l.level l.initial.work l.clause
+abbrev pub invariant-loop-place : goal.invariant-loop-place
+invariant-loop-place l = l.work ≡ fold (mark_at l.level) l.initial.work l.yielded

@@ -1,7 +1,7 @@
-use Rattle.std.proofs.Common.{◌≡◌, ◌-◌}
-use Rattle.cdcl.specs.Vsids.{all_inserted}
+use Rattle.std.proofs.Common.{◌≡◌}
+use Rattle.cdcl.specs.Work.{for_each}
+use Rattle.cdcl.specs.Vsids.{heap_insert}
 use Rattle.cdcl.proofs.vsids.insert_all.Given as goal
 
--- the variables that are left, inserted now, give the whole
 abbrev pub invariant-loop-var : goal.invariant-loop-var
-invariant-loop-var l = all_inserted (l.num_vars - l.var) l.var l.work ≡ all_inserted l.num_vars 0 l.initial.work
+invariant-loop-var l = l.work ≡ for_each heap_insert l.var l.initial.work
