@@ -1,75 +1,72 @@
 -- The header as code reads it is the header of Text: words, numbers, and what is refused.
 -- Steps of the loops over words and digits first, then the whole line.
-use Rattle.std.proofs.Common.{◌≡◌, ℕ, suc, ◌+◌, ◌-◌, ◌*◌, ◌<◌, ◌≤◌, Bool, true, false, ◌&&◌, eqb, ltb, ◌⊎◌, List, [], ◌∷◌, ◌++◌, length, get_or, take, drop, Some, None, Ok, Err, Result, sym, refl, ap, ◌∙◌, inl, inr, append_assoc, append-nil, arith}
-use Rattle.std.proofs.lemmas.Bool.{cases_Bool}
-use Rattle.std.proofs.lemmas.List.{at_drop_more, at_drop_all}
+use Rattle.std.proofs.Common.{◌≡◌, ℕ, zero, suc, ◌+◌, ◌-◌, ◌*◌, ◌^◌, ◌<◌, ◌≤◌, Bool, true, false, not, cond, ◌&&◌, eqb, leb, ltb, ◌⊎◌, List, [], ◌∷◌, ◌++◌, length, take, drop, Some, None, Ok, Err, Option, Result, sym, refl, ap, ◌∙◌, inl, inr, append_assoc, append-nil, arith}
+use Rattle.std.proofs.lemmas.Bool.{cases_Bool, and_parts, ltb-true, eqb-true}
+use Rattle.std.specs.Char.{digit_value}
+use Rattle.std.specs.List.{position_or_len}
+use Rattle.std.specs.Cmp.Lexicographic.{pointwise}
+use Rattle.std.specs.Str.{IsAscii, IsUtf8}
+use Rattle.std.proofs.lemmas.Str.{IsUtf8-from_ascii}
+use Rattle.std.specs.Str.Parse.{AllDigits, IsNumeral, ParsesUnsigned, digits_value, digits_value_after, without_leading_plus}
+use Rattle.std.specs.Option.{unwrap_or}
+use Rattle.std.specs.Result.{MatchResult, OkIff, result_ok}
+use Rattle.std.proofs.lemmas.List.Sums.{prefix_len-le-length}
 use Rattle.formula.specs.Logic.{pick, any, none_of}
 use Rattle.dimacs.specs.Text.{is_blank, is_digit, words_from, number_of, word_number, same_bytes, Reader, Read, reader, goes_on, wrong, header_read, with_words, with_numbers}
 use Rattle.dimacs.specs.declared.read.Fault.{Fault}
+use Rattle.dimacs.specs.declared.read.Fault.TheVariants.{BadHeader}
+use Rattle.dimacs.specs.Scan.{number_told, first_told, second_told}
 use Rattle.dimacs.specs.declared.header.Promise.{Promise}
-use Rattle.dimacs.specs.Heading.{is_such, run_of, unblanked, first_word, after_word, with_digit, is_cnf, begins_header, fault_at, words_read, numbers_read, heading_read}
+use Rattle.dimacs.specs.Heading.{unblanked, first_of, first_word, after_word, words_read, numbers_read, heading_read}
 
--- LOOPS
-pub run_stop : (v : Bool) (xs : List ℕ) (i : ℕ) → i < length xs → is_such v (get_or xs i 0) ≡ false → run_of v (drop i xs) ≡ 0
-unfolding run_of
-run_stop v xs i h e = at_drop_more (run_of v) xs i 0 h ∙ ap (λ b. pick b (suc (run_of v (drop (i + 1) xs))) 0) e
+-- NUMBERS, by the library's words for what `parse` reads
+pub digit_is : (c : ℕ) → is_digit c ≡ true → (digit_value c ≡ c - 48) × (digit_value c < 10)
+digit_is c e = let k = and_parts (leb 48 c) (leb c 57) e in (grind arith, grind arith)
 
-pub run_more : (v : Bool) (xs : List ℕ) (i : ℕ) → i < length xs → is_such v (get_or xs i 0) ≡ true → run_of v (drop i xs) ≡ suc (run_of v (drop (i + 1) xs))
-unfolding run_of
-run_more v xs i h e = at_drop_more (run_of v) xs i 0 h ∙ ap (λ b. pick b (suc (run_of v (drop (i + 1) xs))) 0) e
+pub is_digit_from : (c : ℕ) → digit_value c < 10 → (is_digit c ≡ true) × (digit_value c ≡ c - 48)
+is_digit_from c h = (grind arith, grind arith)
 
-pub run_end : (v : Bool) (xs : List ℕ) (i : ℕ) → length xs ≤ i → run_of v (drop i xs) ≡ 0
-unfolding run_of
-run_end v xs i h = at_drop_all (run_of v) xs i h
+pub value_more : (n : ℕ) (ds : List ℕ) → n ≤ digits_value_after 10 n ds
+value_more n [] = omega arith
+value_more n (c ∷ cs) = let ih = value_more (n * 10 + digit_value c) cs in omega arith
 
-pub number_more : (n m : ℕ) (xs : List ℕ) (i : ℕ) → i < length xs → with_digit n (get_or xs i 0) ≡ Some m → number_of n (drop i xs) ≡ number_of m (drop (i + 1) xs)
+pub number_is : (n : ℕ) (ds : List ℕ) → AllDigits 10 ds → digits_value_after 10 n ds < 18446744073709551616 → number_of n ds ≡ digits_value_after 10 n ds ∷ []
 unfolding number_of
-number_more n m xs i h e = let k = at_drop_more (number_of n) xs i 0 h in grind arith
+number_is n [] a h = refl
+number_is n (c ∷ cs) a h =
+    let d = is_digit_from c a.0 in
+    let more = value_more (n * 10 + digit_value c) cs in
+    let ih = number_is (n * 10 + digit_value c) cs a.1 h in
+    grind arith
 
-pub number_stop : (n : ℕ) (xs : List ℕ) (i : ℕ) → i < length xs → with_digit n (get_or xs i 0) ≡ None → number_of n (drop i xs) ≡ []
+pub number_not : (n : ℕ) (ds : List ℕ) → n < 18446744073709551616 → (AllDigits 10 ds → digits_value_after 10 n ds < 18446744073709551616 → ⊥) → number_of n ds ≡ []
 unfolding number_of
-number_stop n xs i h e = let k = at_drop_more (number_of n) xs i 0 h in grind arith
+number_not n [] k h = absurd (h tt k)
+number_not n (c ∷ cs) k h = elim (cases_Bool (is_digit c && ltb (n * 10 + (c - 48)) 18446744073709551616)) [
+  | inl e ↦ (
+      let t = and_parts (is_digit c) _ e in
+      let d = digit_is c t.0 in
+      rw e (number_not (n * 10 + (c - 48)) cs (ltb-true _ _ t.1) (λ a b. h (d.1, a) (rw d.0 b)))
+      )
+  | inr e ↦ rw e refl
+]
 
-pub number_end : (n : ℕ) (xs : List ℕ) (i : ℕ) → length xs ≤ i → number_of n (drop i xs) ≡ n ∷ []
-unfolding number_of
-number_end n xs i h = at_drop_all (number_of n) xs i h
-
-pub number_word : (w : List ℕ) → 0 < length w → (eqb (get_or w 0 0) 43 ≡ false) → word_number w ≡ number_of 0 w
-unfolding word_number
-number_word [] h e = absurd (omega arith)
-number_word (b ∷ bs) h e = ap (λ v. pick v (pick (none_of bs) [] (number_of 0 bs)) (number_of 0 (b ∷ bs))) e
-
-pub plus_word : (w : List ℕ) → 1 < length w → (eqb (get_or w 0 0) 43 ≡ true) → word_number w ≡ number_of 0 (drop 1 w)
+-- a word without its plus is read alike
+pub word_rest : (w : List ℕ) → word_number w ≡ pick (none_of (without_leading_plus w)) [] (number_of 0 (without_leading_plus w))
 unfolding word_number none_of
-plus_word [] h e = absurd (omega arith)
-plus_word (b ∷ []) h e = absurd (omega arith)
-plus_word (b ∷ d ∷ bs) h e = ap (λ v. pick v (number_of 0 (d ∷ bs)) (number_of 0 (b ∷ d ∷ bs))) e
-
-pub plus_alone : (w : List ℕ) → length w ≡ 1 → (eqb (get_or w 0 0) 43 ≡ true) → word_number w ≡ []
-unfolding word_number none_of
-plus_alone [] h e = absurd (omega arith)
-plus_alone (b ∷ []) h e = ap (λ v. pick v [] (number_of 0 (b ∷ []))) e
-plus_alone (b ∷ d ∷ bs) h e = absurd (omega arith)
-
-pub no_word : (w : List ℕ) → length w ≡ 0 → word_number w ≡ []
-unfolding word_number
-no_word [] h = refl
-no_word (b ∷ bs) h = absurd (omega arith)
+word_rest [] = refl
+word_rest (b ∷ w) = elim (cases_Bool (eqb b 43)) [
+  | inl e ↦ rw e refl
+  | inr e ↦ rw e refl
+]
 
 -- THE WHOLE LINE
-pub cnf_same : (w : List ℕ) → same_bytes w (99 ∷ 110 ∷ 102 ∷ []) ≡ is_cnf w
+pub same_is : (xs ys : List ℕ) → same_bytes xs ys ≡ pointwise eqb xs ys
 unfolding same_bytes
-cnf_same [] = refl
-cnf_same (a ∷ []) = grind arith
-cnf_same (a ∷ b ∷ []) = grind arith
-cnf_same (a ∷ b ∷ c ∷ []) = grind arith
-cnf_same (a ∷ b ∷ c ∷ d ∷ w) = grind arith
-
-pub begins_same : (w : List ℕ) → same_bytes (take 2 w) (112 ∷ 32 ∷ []) ≡ begins_header w
-unfolding same_bytes
-begins_same [] = refl
-begins_same (a ∷ []) = grind arith
-begins_same (a ∷ b ∷ w) = grind arith
+same_is [] [] = refl
+same_is [] (y ∷ ys) = refl
+same_is (x ∷ xs) [] = refl
+same_is (x ∷ xs) (y ∷ ys) = ap (λ b. eqb x y && b) (same_is xs ys)
 
 pub some_last : (w : List ℕ) (b : ℕ) → none_of (w ++ b ∷ []) ≡ false
 unfolding none_of
@@ -77,42 +74,79 @@ some_last [] b = refl
 some_last (x ∷ w) b = refl
 
 -- the words: the first, and those of what follows it
+abbrev word_start : List ℕ → ℕ
+word_start xs = position_or_len (λ b. not (is_blank b)) xs
+
+abbrev word_end : List ℕ → ℕ
+word_end xs = position_or_len is_blank xs
+
+drop_one : (n b : ℕ) (xs : List ℕ) → drop (1 + n) (b ∷ xs) ≡ drop n xs
+drop_one n b xs = let e : 1 + n ≡ suc n = omega arith in ap (λ k. drop k (b ∷ xs)) e
+
+take_one : (n b : ℕ) (xs : List ℕ) → take (1 + n) (b ∷ xs) ≡ b ∷ take n xs
+take_one n b xs = let e : 1 + n ≡ suc n = omega arith in ap (λ k. take k (b ∷ xs)) e
+
 pub words_blank : (xs : List ℕ) → words_from [] xs ≡ words_from [] (unblanked xs)
-unfolding words_from run_of none_of
+unfolding words_from none_of
 words_blank [] = refl
-words_blank (b ∷ xs) = let ih = words_blank xs in grind arith
-
-pub no_blank : (xs : List ℕ) → run_of true (unblanked xs) ≡ 0
-unfolding run_of
-no_blank [] = refl
-no_blank (b ∷ xs) = let ih = no_blank xs in grind arith
-
-pub words_word : (w ys : List ℕ) → none_of w ≡ false → words_from w ys ≡ (w ++ take (run_of false ys) ys) ∷ words_from [] (drop (run_of false ys) ys)
-unfolding words_from run_of none_of
-words_word w [] h = let e = append-nil w in grind arith
-words_word w (b ∷ ys) h = elim (cases_Bool (is_blank b)) [
-  | inl e ↦ (let k = append-nil w in grind arith)
-  | inr e ↦ (let k = append_assoc w (b ∷ []) (take (run_of false ys) ys) in let n = some_last w b in let ih = words_word (w ++ b ∷ []) ys n in grind arith)
+words_blank (b ∷ xs) = elim (cases_Bool (is_blank b)) [
+  | inl e ↦ rw e (words_blank xs ∙ ap (words_from []) (sym (drop_one (word_start xs) b xs)))
+  | inr e ↦ rw e (rw e refl)
 ]
 
-pub words_here : (ys : List ℕ) → run_of true ys ≡ 0 →
-    words_from [] ys ≡ pick (none_of (take (run_of false ys) ys)) [] (take (run_of false ys) ys ∷ words_from [] (drop (run_of false ys) ys))
-unfolding words_from run_of none_of
+pub no_blank : (xs : List ℕ) → word_start (unblanked xs) ≡ 0
+no_blank [] = refl
+no_blank (b ∷ xs) = elim (cases_Bool (is_blank b)) [
+  | inl e ↦ rw e (ap word_start (drop_one (word_start xs) b xs) ∙ no_blank xs)
+  | inr e ↦ rw e (rw e refl)
+]
+
+-- a word goes on as far as no blank comes
+abbrev word_then : List ℕ → List ℕ → ℕ → List (List ℕ)
+word_then w ys n = (w ++ take n ys) ∷ words_from [] (drop n ys)
+
+pub words_word : (w ys : List ℕ) → none_of w ≡ false → words_from w ys ≡ word_then w ys (word_end ys)
+unfolding words_from none_of
+words_word w [] h = rw (h, append-nil w) refl
+words_word w (b ∷ ys) h = elim (cases_Bool (is_blank b)) [
+  | inl e ↦ rw (e, h, append-nil w) (rw e refl)
+  | inr e ↦ rw e (go (word_end ys) (words_word (w ++ b ∷ []) ys (some_last w b)))
+]
+  where
+    go : (n : ℕ) → words_from (w ++ b ∷ []) ys ≡ word_then (w ++ b ∷ []) ys n → words_from (w ++ b ∷ []) ys ≡ word_then w (b ∷ ys) (1 + n)
+    go n ih =
+        ih ∙ (ap (λ (z : List ℕ). z ∷ words_from [] (drop n ys)) (append_assoc w (b ∷ []) (take n ys) ∙ ap (λ (z : List ℕ). w ++ z) (sym (take_one n b ys)))
+        ∙ ap (λ (z : List ℕ). (w ++ take (1 + n) (b ∷ ys)) ∷ words_from [] z) (sym (drop_one n b ys)))
+
+pub words_here : (ys : List ℕ) → word_start ys ≡ 0 →
+    words_from [] ys ≡ pick (none_of (take (word_end ys) ys)) [] (take (word_end ys) ys ∷ words_from [] (drop (word_end ys) ys))
+unfolding words_from none_of
 words_here [] h = refl
 words_here (b ∷ ys) h = elim (cases_Bool (is_blank b)) [
-  | inl e ↦ absurd (grind arith)
-  | inr e ↦ (let ih = words_word (b ∷ []) ys refl in grind arith)
+  | inl e ↦ (let z : 1 + word_start ys ≡ 0 = rw e at h in absurd (omega arith))
+  | inr e ↦ rw e (go (word_end ys) (words_word (b ∷ []) ys refl))
 ]
+  where
+    go : (n : ℕ) → words_from (b ∷ []) ys ≡ word_then (b ∷ []) ys n →
+        words_from (b ∷ []) ys ≡ pick (none_of (take (1 + n) (b ∷ ys))) [] (take (1 + n) (b ∷ ys) ∷ words_from [] (drop (1 + n) (b ∷ ys)))
+    go n ih = rw (take_one n b ys, drop_one n b ys) ih
 
 pub words_first : (xs : List ℕ) → words_from [] xs ≡ pick (none_of (first_word xs)) [] (first_word xs ∷ words_from [] (after_word xs))
 unfolding first_word after_word
 words_first xs = words_blank xs ∙ words_here (unblanked xs) (no_blank xs)
 
 -- what is told, from either side
+abbrev pub second_row : Option ℕ → List ℕ
+second_row None = []
+second_row (Some n) = n ∷ []
+
+abbrev pub numbers_told : Fault → List ℕ
+numbers_told f = first_told f ∷ second_row (second_told f)
+
 abbrev pub as_read : Reader → Result Promise Fault → Read
 as_read r (Ok p) =
     goes_on (reader r.read_clauses r.part r.number r.minus r.in_lit r.skips false r.starts r.line [] (record { head_vars = p.vars; head_clauses = p.clauses } ∷ []))
-as_read r (Err f) = wrong f.number (f.first ∷ [])
+as_read r (Err f) = wrong (number_told f) (numbers_told f)
 
 pub one_number : (n : ℕ) (w : List ℕ) → (number_of n w ≡ []) ⊎ ((m : ℕ) × (number_of n w ≡ m ∷ []))
 unfolding number_of
@@ -132,13 +166,13 @@ a_number (b ∷ w) = elim (cases_Bool (eqb b 43)) [
 
 pub words_are : (r : Reader) (w v c x : List ℕ) (t : List (List ℕ)) →
     with_words r (pick (none_of w) [] (w ∷ pick (none_of v) [] (v ∷ pick (none_of c) [] (c ∷ pick (none_of x) [] (x ∷ t)))))
-    ≡ as_read r (pick (is_cnf w) (numbers_read v c (eqb (length x) 0) r.line) (Err (fault_at 22 r.line)))
+    ≡ as_read r (pick (pointwise eqb w (99 ∷ 110 ∷ 102 ∷ [])) (numbers_read v c (eqb (length x) 0) r.line) (Err (BadHeader r.line)))
 unfolding with_words with_numbers none_of any word_number
 words_are r [] v c x t = refl
-words_are r (a ∷ w) [] c x t = grind arith
-words_are r (a ∷ w) (b ∷ v) [] x t = let n = a_number (b ∷ v) in let e = cnf_same (a ∷ w) in grind arith
-words_are r (a ∷ w) (b ∷ v) (d ∷ c) [] t = let n = a_number (b ∷ v) in let m = a_number (d ∷ c) in let e = cnf_same (a ∷ w) in grind arith
-words_are r (a ∷ w) (b ∷ v) (d ∷ c) (y ∷ x) t = let n = a_number (b ∷ v) in let m = a_number (d ∷ c) in let e = cnf_same (a ∷ w) in grind arith
+words_are r (a ∷ w) [] c x t = let e = same_is (a ∷ w) (99 ∷ 110 ∷ 102 ∷ []) in grind arith
+words_are r (a ∷ w) (b ∷ v) [] x t = let n = a_number (b ∷ v) in let e = same_is (a ∷ w) (99 ∷ 110 ∷ 102 ∷ []) in grind arith
+words_are r (a ∷ w) (b ∷ v) (d ∷ c) [] t = let n = a_number (b ∷ v) in let m = a_number (d ∷ c) in let e = same_is (a ∷ w) (99 ∷ 110 ∷ 102 ∷ []) in grind arith
+words_are r (a ∷ w) (b ∷ v) (d ∷ c) (y ∷ x) t = let n = a_number (b ∷ v) in let m = a_number (d ∷ c) in let e = same_is (a ∷ w) (99 ∷ 110 ∷ 102 ∷ []) in grind arith
 
 pub words_all : (xs : List ℕ) → let v : List ℕ = after_word xs in let c : List ℕ = after_word v in let x : List ℕ = after_word c in
     words_from [] xs
@@ -153,8 +187,9 @@ words_all xs =
 pub header_is : (r : Reader) → header_read r ≡ as_read r (heading_read r.header_row r.line)
 unfolding header_read
 header_is r =
-    ap (λ b. pick b (with_words r (words_from [] xs)) bad) (begins_same r.header_row)
-    ∙ (ap (λ z. pick (begins_header r.header_row) z bad) (ap (with_words r) (words_all xs) ∙ words_are r _ _ _ _ _) ∙ out (begins_header r.header_row))
+    ap (λ b. pick b (with_words r (words_from [] xs)) bad) (same_is (take 2 r.header_row) (112 ∷ 32 ∷ []))
+    ∙ (ap (λ z. pick (pointwise eqb (take 2 r.header_row) (112 ∷ 32 ∷ [])) z bad) (ap (with_words r) (words_all xs) ∙ words_are r _ _ _ _ _)
+    ∙ out (pointwise eqb (take 2 r.header_row) (112 ∷ 32 ∷ [])))
   where
     xs : List ℕ
     xs = drop 2 r.header_row
@@ -162,9 +197,54 @@ header_is r =
     bad : Read
     bad = wrong 22 (r.line ∷ [])
 
-    out : (b : Bool) → pick b (as_read r (words_read xs r.line)) bad ≡ as_read r (pick b (words_read xs r.line) (Err (fault_at 22 r.line)))
+    out : (b : Bool) → pick b (as_read r (words_read xs r.line)) bad ≡ as_read r (pick b (words_read xs r.line) (Err (BadHeader r.line)))
     out true = refl
     out false = refl
 
-pub when_headed : (row : List ℕ) (line : ℕ) → begins_header row ≡ true → words_read (drop 2 row) line ≡ heading_read row line
-when_headed row line e = sym (ap (λ v. pick v (words_read (drop 2 row) line) (Err (fault_at 22 line))) e)
+-- WHAT THE LIBRARY ANSWERS
+pub place_is : (test : ℕ → Bool) (xs : List ℕ) (r : Option ℕ) (n : ℕ) → r ≡ cond (ltb (position_or_len test xs) (length xs)) (Some (position_or_len test xs)) None →
+    n ≡ unwrap_or r (length xs) → n ≡ position_or_len test xs
+place_is test xs r n e u = let k = prefix_len-le-length (λ x. not (test x)) xs in grind arith
+
+pub parsed_is : {E : Type 0} (w : List ℕ) (r : Result ℕ E) → ParsesUnsigned 64 10 w r → result_ok r ≡ first_of (word_number w)
+unfolding none_of
+parsed_is {E} w r h = go (without_leading_plus w) r h ∙ ap first_of (sym (word_rest w))
+  where
+    go : (ds : List ℕ) (r : Result ℕ E) → OkIff r (IsNumeral 10 ds × (digits_value 10 ds < 2 ^ 64)) (digits_value 10 ds) → result_ok r ≡ first_of (pick (none_of ds) [] (number_of 0 ds))
+    go [] (Ok n) ((a, b), v) = absurd (omega (arith, a.0))
+    go (d ∷ ds) (Ok n) ((a, b), v) = rw (number_is 0 (d ∷ ds) a.1 b, v) refl
+    go [] (Err e) h = refl
+    go (d ∷ ds) (Err e) h = rw (number_not 0 (d ∷ ds) (omega arith) (λ a b. h ((omega arith, a), b))) refl
+
+digits_ascii : (ds : List ℕ) → AllDigits 10 ds → IsAscii ds
+digits_ascii [] a i = omega arith
+digits_ascii (d ∷ ds) a zero = grind arith
+digits_ascii (d ∷ ds) a (suc i) = digits_ascii ds a.1 i
+
+plus_ascii : (w : List ℕ) → IsAscii (without_leading_plus w) → IsAscii w
+plus_ascii [] a = a
+plus_ascii (b ∷ w) a = elim (cases_Bool (eqb b 43)) [
+  | inl e ↦ go (eqb-true b 43 e) (rw e at a)
+  | inr e ↦ rw e at a
+]
+  where
+    go : b ≡ 43 → IsAscii w → IsAscii (b ∷ w)
+    go e a zero = omega arith
+    go e a (suc i) = a i
+
+-- a word that is no text is no number
+pub unread_is : (w : List ℕ) → ¬ (IsUtf8 w) → None ≡ first_of (word_number w)
+unfolding none_of
+unread_is w h = ap first_of (sym (word_rest w ∙ go (without_leading_plus w) (λ a. h (IsUtf8-from_ascii w (plus_ascii w a)))))
+  where
+    go : (ds : List ℕ) → (IsAscii ds → ⊥) → pick (none_of ds) [] (number_of 0 ds) ≡ []
+    go [] h = refl
+    go (d ∷ ds) h = number_not 0 (d ∷ ds) (omega arith) (λ a b. h (digits_ascii (d ∷ ds) a))
+
+pub unread_at : {A E : Type 0} (w : List ℕ) (P : A → Type 0) (Q : E → Type 0) (r : Result A E) → MatchResult r P (λ e. ¬ (IsUtf8 w) × Q e) → result_ok r ≡ None → None ≡ first_of (word_number w)
+unread_at w P Q (Ok x) m e = (let z : ◌≡◌ {A = ℕ} 0 1 = cc in absurd (omega arith))
+unread_at w P Q (Err x) m e = unread_is w m.0
+
+pub text_at : {A E : Type 0} (P : A → Type 0) (Q : E → Type 0) (r : Result A E) (x : A) → MatchResult r P Q → result_ok r ≡ Some x → P x
+text_at P Q (Ok y) x m e = (let z : x ≡ y = cc in rw z m)
+text_at P Q (Err y) x m e = (let z : ◌≡◌ {A = ℕ} 0 1 = cc in absurd (omega arith))

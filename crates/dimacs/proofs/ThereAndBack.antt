@@ -1,11 +1,15 @@
 -- A formula that is written is read as what it was: byte by byte, number by number, line by line.
 -- The last lemma is the contract of `there_and_back`.
-use Rattle.std.proofs.Common.{◌≡◌, ℕ, zero, suc, ◌+◌, ◌-◌, ◌*◌, ◌/◌, ◌%◌, ◌^◌, ◌<◌, ◌≤◌, Bool, true, false, ltb, ◌⊎◌, List, [], ◌∷◌, ◌++◌, length, sym, refl, ap, ◌∙◌, inl, inr, true≢false, append_assoc, append-nil, arith}
+use Rattle.std.proofs.Common.{◌≡◌, ℕ, suc, ◌+◌, ◌-◌, ◌*◌, ◌/◌, ◌%◌, ◌<◌, ◌≤◌, Bool, true, false, ltb, ◌⊎◌, List, [], ◌∷◌, ◌++◌, length, sym, refl, ap, ◌∙◌, inl, inr, true≢false, append_assoc, append-nil, subst, arith}
 use Rattle.formula.specs.Logic.{pick, every, none_of, Clause}
-use Rattle.std.proofs.lemmas.Bool.{cases_Bool, ltb-true, ltb-false, lt-ltb, le-ltb, eq-eqb, and_parts}
+use Rattle.std.proofs.lemmas.Bool.{ltb-true, le-ltb, eq-eqb, and_parts}
 use Rattle.formula.proofs.Rows.{In, in_cases}
 use Rattle.formula.proofs.Soundness.{even_or_odd}
-use Rattle.dimacs.specs.Text.{Reader, Header, Read, goes_on, reader, first_reader, bytes_read, next_byte, byte_read, digit_read, is_end, skipped, digits_rev, turned, number_text, literal_text, clause_text, clauses_text, literal_done, number_of, word_number, words_from, is_blank, row_vars, vars_of, formula_text, file_read, at_end, ended, with_header, header_read, with_words, with_numbers, same_bytes, then_out}
+use Rattle.dimacs.specs.Text.{Reader, Header, Read, goes_on, reader, first_reader, bytes_read, next_byte, byte_read, digit_read, is_end, skipped, number_text, literal_text, clause_text, clauses_text, literal_done, number_of, word_number, words_from, is_blank, row_vars, vars_of, formula_text, file_read, at_end, ended, with_header, header_read, with_words, with_numbers, same_bytes, then_out}
+use Rattle.std.specs.Fmt.{decimal}
+use Rattle.std.proofs.lemmas.Fmt.{decimal_by_steps, decimal_is_IsNumeral}
+use Rattle.dimacs.proofs.Headings.{number_is, some_last}
+use Rattle.dimacs.proofs.Writing.{number_text_is}
 use Rattle.dimacs.specs.Statements.{lits_fit}
 use Rattle.dimacs.specs.Statements.{ThereAndBack}
 
@@ -39,18 +43,9 @@ unfolding bytes_read next_byte byte_read digit_read literal_done
 end_step ds p st i hs = refl
 
 -- NUMBERS: one digit, or a number's tenth and its last digit
-pub digits_ind : (P : ℕ → List ℕ → Type 0) → ((n : ℕ) → n < 10 → P n ((48 + n) ∷ [])) → ((n : ℕ) (xs : List ℕ) → 10 ≤ n → P (n / 10) xs → P n (xs ++ (48 + n % 10) ∷ [])) →
-    (f n : ℕ) → n < 10 ^ suc f → P n (turned (digits_rev (suc f) n))
-unfolding digits_rev turned
-digits_ind P one more zero n h = rw (lt-ltb n 10 (omega arith)) (one n (omega arith))
-digits_ind P one more (suc f) n h = elim (cases_Bool (ltb n 10)) [
-  | inl e ↦ rw e (one n (ltb-true n 10 e))
-  | inr e ↦ (let k = ltb-false n 10 e in rw e (more n (turned (digits_rev (suc f) (n / 10))) k (digits_ind P one more f (n / 10) (omega arith))))
-]
-
 pub number_ind : (P : ℕ → List ℕ → Type 0) → ((n : ℕ) → n < 10 → P n ((48 + n) ∷ [])) → ((n : ℕ) (xs : List ℕ) → 10 ≤ n → P (n / 10) xs → P n (xs ++ (48 + n % 10) ∷ [])) →
     (n : ℕ) → n < 18446744073709551616 → P n (number_text n)
-number_ind P one more n h = digits_ind P one more 19 n (omega arith)
+number_ind P one more n h = subst (P n) (sym (number_text_is n h)) (decimal_by_steps P one more n h)
 
 abbrev pub Digits : List ℕ → Type 0
 Digits xs = (b : ℕ) → In b xs → (48 ≤ b) × (b ≤ 57)
@@ -83,28 +78,14 @@ number_read n ds p m l st i hs k = number_ind (λ n xs. n ≤ 16384 → bytes_re
         ∙ (digit_step ds p (n / 10) (48 + n % 10) m true false i hs (omega arith) (omega arith) (omega arith) ∙ at n k _ (omega arith)))
 
 -- a number in the header
-pub number_snoc : (k j b : ℕ) (xs : List ℕ) → number_of k xs ≡ j ∷ [] → 48 ≤ b → b ≤ 57 → j * 10 + (b - 48) < 18446744073709551616 → number_of k (xs ++ b ∷ []) ≡ (j * 10 + (b - 48)) ∷ []
-unfolding number_of
-number_snoc k j b [] e x y z = grind arith
-number_snoc k j b (c ∷ xs) e x y z = let ih = number_snoc (k * 10 + (c - 48)) j b xs in grind arith
-
 pub number_back : (n : ℕ) → n < 18446744073709551616 → number_of 0 (number_text n) ≡ n ∷ []
-unfolding number_of
-number_back n h = number_ind (λ n xs. n < 18446744073709551616 → number_of 0 xs ≡ n ∷ []) one more n h h
-  where
-    one : (n : ℕ) → n < 10 → n < 18446744073709551616 → number_of 0 ((48 + n) ∷ []) ≡ n ∷ []
-    one n h k = grind arith
-
-    more : (n : ℕ) (xs : List ℕ) → 10 ≤ n → (n / 10 < 18446744073709551616 → number_of 0 xs ≡ (n / 10) ∷ []) → n < 18446744073709551616 → number_of 0 (xs ++ (48 + n % 10) ∷ []) ≡ n ∷ []
-    more n xs h ih k = number_snoc 0 (n / 10) (48 + n % 10) xs (ih (omega arith)) (omega arith) (omega arith) (omega arith) ∙ ap (λ z. z ∷ []) (omega arith)
+number_back n h =
+    let d = decimal_is_IsNumeral n h in
+    rw (number_text_is n h) (number_is 0 (decimal n) d.0.1 (omega (arith, d.1)) ∙ ap (λ z. z ∷ []) d.1)
 
 pub some_digits : (n : ℕ) → n < 18446744073709551616 → none_of (number_text n) ≡ false
 unfolding none_of
-some_digits = number_ind (λ n xs. none_of xs ≡ false) (λ n h. refl) (λ n xs h ih. some xs n)
-  where
-    some : (xs : List ℕ) (n : ℕ) → none_of (xs ++ (48 + n % 10) ∷ []) ≡ false
-    some [] n = refl
-    some (x ∷ xs) n = refl
+some_digits = number_ind (λ n xs. none_of xs ≡ false) (λ n h. refl) (λ n xs h ih. some_last xs (48 + n % 10))
 
 pub word_digits : (xs : List ℕ) → none_of xs ≡ false → Digits xs → word_number xs ≡ number_of 0 xs
 unfolding word_number none_of

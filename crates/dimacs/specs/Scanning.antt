@@ -1,184 +1,184 @@
 -- What code keeps of a text that it reads, instead of the clauses themselves, and what each byte makes of it.
 -- Definitions only; proofs/Scans.antt shows that they come to the reader of Text.
-use Rattle.std.specs.Prelude.{ℕ, ◌+◌, ◌-◌, ◌*◌, ◌≤◌, Bool, true, false, not, ◌&&◌, List, [], ◌∷◌, length, take, drop, Some, None, Ok, Err, Option, Result, ◌==◌, nat_lt, slice_set}
+use Rattle.std.specs.Prelude.{ℕ, ◌+◌, ◌-◌, ◌*◌, ◌^◌, ◌<◌, ◌≤◌, Bool, true, false, not, ◌&&◌, List, [], ◌∷◌, length, drop, Some, None, Ok, Err, Option, Result, ◌==◌, nat_lt, slice_set}
 use Rattle.formula.specs.Logic.{pick, or, how_large, Clause}
-use Rattle.dimacs.specs.Text.{Reader, Header, is_digit, is_end, larger, vars_of, row_vars}
-use Rattle.dimacs.specs.Heading.{fault_at, heading_read}
+use Rattle.dimacs.specs.Text.{Reader, Header, reader, is_digit, is_end, larger, vars_of, row_vars}
+use Rattle.dimacs.specs.Heading.{heading_read}
 use Rattle.dimacs.specs.declared.read.Fault.{Fault}
-use Rattle.dimacs.specs.declared.read.Outcome.{Outcome}
-use Rattle.dimacs.specs.declared.read.Outcome.TheVariants.{Formula, Wrong}
+use Rattle.dimacs.specs.declared.read.Fault.TheVariants.{BadByte, TooLarge, OpenClause, MoreVars, OtherClauses}
+use Rattle.dimacs.specs.declared.read.Counts.{Counts}
 use Rattle.dimacs.specs.declared.header.Promise.{Promise}
-use Rattle.dimacs.specs.declared.scan.Token.{Token}
-use Rattle.dimacs.specs.declared.scan.Line.{Line}
+use Rattle.dimacs.specs.declared.scan.State.{State}
+use Rattle.dimacs.specs.declared.scan.State.TheVariants.{LineStart, Between, Minus, Number, Comment}
+use Rattle.dimacs.specs.declared.scan.State.TheVariants as st
 use Rattle.dimacs.specs.declared.scan.Tally.{Tally}
 use Rattle.dimacs.specs.declared.scan.Scan.{Scan}
 
+-- STATES
+-- the number that is read, its sign, and whether it has a digit
+abbrev pub value_of : State → ℕ
+value_of (Number negated value) = value
+value_of x = 0
+
+abbrev pub negated_of : State → Bool
+negated_of (Number negated value) = negated
+negated_of Minus = true
+negated_of x = false
+
+abbrev pub in_number : State → Bool
+in_number (Number negated value) = true
+in_number x = false
+
+-- a comment or the header, where its row begins, and what it is behind some bytes
+abbrev pub skips : State → Bool
+skips Comment = true
+skips (st.Header start) = true
+skips x = false
+
+abbrev pub in_header : State → Bool
+in_header (st.Header start) = true
+in_header x = false
+
+abbrev pub start_of : State → ℕ
+start_of (st.Header start) = start
+start_of x = 0
+
+abbrev pub row_of : List ℕ → State → List ℕ
+row_of before (st.Header start) = drop start before
+row_of before x = []
+
+-- at a line's start, where a line that is passed over stays
+abbrev pub starts : State → Bool
+starts LineStart = true
+starts x = skips x
+
 -- OF A READER
 abbrev pub tally_of : List Clause → List ℕ → Tally
-tally_of cs p = record { clauses = length cs; literals = how_large cs; part = length p; vars = larger (vars_of cs) (row_vars p) }
+tally_of cs p = record { counts = record { clauses = length cs; literals = how_large cs; vars = larger (vars_of cs) (row_vars p) }; part = length p }
 
 abbrev pub promise_of : List Header → Option Promise
 promise_of [] = None
 promise_of (h ∷ hs) = Some (record { vars = h.head_vars; clauses = h.head_clauses })
 
-abbrev pub seen : Reader → Scan
-seen r =
-    record {
-      token = record { number = r.number; minus = r.minus; within = r.in_lit };
-      line = record { number = r.line; starts = r.starts; skips = r.skips; heading = r.in_header; width = length r.header_row };
-      tally = tally_of r.read_clauses r.part;
-      header = promise_of r.header;
-    }
+-- what is kept of clauses, a part of one and a header, and the reader that stands there
+abbrev pub kept : List Clause → List ℕ → List Header → ℕ → State → Scan
+kept cs p hs line x = record { line = line; state = x; tally = tally_of cs p; header = promise_of hs }
+
+abbrev pub stood : List ℕ → List Clause → List ℕ → List Header → ℕ → State → Reader
+stood before cs p hs line x = reader cs p (value_of x) (negated_of x) (in_number x) (skips x) (in_header x) (starts x) line (row_of before x) hs
 
 abbrev pub first_scan : Scan
 first_scan =
     record {
-      token = record { number = 0; minus = false; within = false };
-      line = record { number = 1; starts = true; skips = false; heading = false; width = 0 };
-      tally = record { clauses = 0; literals = 0; part = 0; vars = 0 };
+      line = 1;
+      state = LineStart;
+      tally = record { counts = record { clauses = 0; literals = 0; vars = 0 }; part = 0 };
       header = None;
     }
 
--- after so many bytes no number is large
+-- one more can be counted
+abbrev pub HasRoom : Tally → Type 0
+HasRoom t = t.counts.clauses + t.counts.literals + t.part < 2 ^ 63
+
+-- after so many bytes no number is large, and a header has begun among them
 pub record Bounded (n : ℕ) (s : Scan) : Type 0 where
-  pub small : s.token.number ≤ 16384
-  pub lines : s.line.number ≤ n + 1
-  pub wide : s.line.width ≤ n
-  pub counts : s.tally.clauses + s.tally.literals + s.tally.part + pick s.token.within 1 0 ≤ n
+  pub lines : s.line ≤ n + 1
+  pub begun : start_of s.state ≤ n
+  pub counts : s.tally.counts.clauses + s.tally.counts.literals + s.tally.part + pick (in_number s.state) 1 0 ≤ n
 
 -- ONE BYTE
-abbrev pub with_line : Scan → Line → Scan
-with_line s l = record { token = s.token; line = l; tally = s.tally; header = s.header }
-
-abbrev pub line_of : Line → Bool → Bool → Bool → ℕ → Line
-line_of l starts skips heading width = record { number = l.number; starts = starts; skips = skips; heading = heading; width = width }
+abbrev pub in_state : Scan → State → Scan
+in_state s x = record { line = s.line; state = x; tally = s.tally; header = s.header }
 
 abbrev pub line_counted : ℕ → Scan → Scan
-line_counted b s =
-    pick (b == 10)
-    (with_line s (record { number = s.line.number + 1; starts = s.line.starts; skips = s.line.skips; heading = s.line.heading; width = s.line.width })) s
+line_counted b s = record { line = pick (b == 10) (s.line + 1) s.line; state = s.state; tally = s.tally; header = s.header }
 
 -- a literal is done, or a clause
 abbrev pub clause_ended : Tally → Tally
-clause_ended t = record { clauses = t.clauses + 1; literals = t.literals + t.part; part = 0; vars = t.vars }
+clause_ended t = record { counts = record { clauses = t.counts.clauses + 1; literals = t.counts.literals + t.part; vars = t.counts.vars }; part = 0 }
 
 abbrev pub literal_added : ℕ → Tally → Tally
-literal_added n t = record { clauses = t.clauses; literals = t.literals; part = t.part + 1; vars = larger t.vars n }
+literal_added n t = record { counts = record { clauses = t.counts.clauses; literals = t.counts.literals; vars = larger t.counts.vars n }; part = t.part + 1 }
 
-abbrev pub literal_of : Token → ℕ
-literal_of k = 2 * (k.number - 1) + pick k.minus 1 0
+abbrev pub literal_of : State → ℕ
+literal_of x = 2 * (value_of x - 1) + pick (negated_of x) 1 0
 
-abbrev pub tally_done : Token → Tally → Tally
-tally_done k t = pick k.within (pick (k.number == 0) (clause_ended t) (literal_added k.number t)) t
+abbrev pub tally_done : State → Tally → Tally
+tally_done x t = pick (in_number x) (pick (value_of x == 0) (clause_ended t) (literal_added (value_of x) t)) t
 
-abbrev pub table_done : List ℕ → ℕ → Token → Tally → List ℕ
-table_done xs start k t =
-    pick k.within
-    (pick (k.number == 0) (slice_set xs (start + (t.clauses + t.literals)) t.part) (slice_set xs (start + (t.clauses + t.literals + 1 + t.part)) (literal_of k))) xs
+abbrev pub rows_done : List ℕ → State → Tally → List ℕ
+rows_done xs x t =
+    pick (in_number x)
+    (pick (value_of x == 0) (slice_set xs (t.counts.clauses + t.counts.literals) t.part) (slice_set xs (t.counts.clauses + t.counts.literals + 1 + t.part) (literal_of x))) xs
 
--- the header's line is ended, or another that was passed over
-abbrev pub row_here : List ℕ → ℕ → ℕ → List ℕ
-row_here bs i width = take width (drop (i - width) bs)
-
-abbrev pub out_of_line : Scan → Result Promise Fault → Result Scan Fault
-out_of_line s (Ok p) = Ok (record { token = s.token; line = line_of s.line true false false 0; tally = s.tally; header = Some p })
-out_of_line s (Err f) = Err f
-
-abbrev pub line_ended : List ℕ → ℕ → Scan → Result Scan Fault
-line_ended bs i s =
-    pick s.line.heading (out_of_line s (heading_read (row_here bs i s.line.width) s.line.number)) (Ok (with_line s (line_of s.line true false false s.line.width)))
-
-abbrev pub byte_passed : Scan → Scan
-byte_passed s = pick s.line.heading (with_line s (line_of s.line s.line.starts s.line.skips true (s.line.width + 1))) s
+abbrev pub number_ended : ℕ → Scan → Scan
+number_ended b s = record { line = s.line; state = pick (b == 32) Between LineStart; tally = tally_done s.state s.tally; header = s.header }
 
 abbrev pub digit_taken : ℕ → Scan → Result Scan Fault
 digit_taken d s =
-    pick (nat_lt 16384 (s.token.number * 10 + d)) (Err (fault_at 21 s.line.number))
-    (Ok (record {
-      token = record { number = s.token.number * 10 + d; minus = s.token.minus; within = true };
-      line = line_of s.line false s.line.skips s.line.heading s.line.width;
-      tally = s.tally;
-      header = s.header;
-    }))
+    pick (nat_lt 16384 (value_of s.state * 10 + d)) (Err (TooLarge s.line))
+    (Ok (in_state s (Number (negated_of s.state) (value_of s.state * 10 + d))))
 
-abbrev pub minus_taken : Scan → Scan
-minus_taken s =
-    record {
-      token = record { number = s.token.number; minus = true; within = s.token.within };
-      line = line_of s.line false s.line.skips s.line.heading s.line.width;
-      tally = s.tally;
-      header = s.header;
-    }
+-- the header's line is ended
+abbrev pub with_promise : Scan → Result Promise Fault → Result Scan Fault
+with_promise s (Ok p) = Ok (record { line = s.line; state = LineStart; tally = s.tally; header = Some p })
+with_promise s (Err f) = Err f
 
-abbrev pub blank_taken : ℕ → Scan → Scan
-blank_taken b s =
-    record {
-      token = record { number = 0; minus = false; within = false };
-      line = line_of s.line (not (b == 32)) s.line.skips s.line.heading s.line.width;
-      tally = tally_done s.token s.tally;
-      header = s.header;
-    }
+abbrev pub header_ended : List ℕ → Scan → Result Scan Fault
+header_ended row s = with_promise s (heading_read row s.line)
 
 -- what a byte is, where it stands
-abbrev pub can_negate : Token → Bool
-can_negate k = not k.minus && not k.within
+abbrev pub can_negate : State → Bool
+can_negate x = not (negated_of x) && not (in_number x)
 
-abbrev pub can_end : Token → Bool
-can_end k = or (not k.minus) k.within
+abbrev pub can_end : State → Bool
+can_end x = or (not (negated_of x)) (in_number x)
 
 abbrev pub no_header : Option Promise → Bool
 no_header None = true
 no_header (Some p) = false
 
-abbrev pub byte_fault : ℕ → Scan → Fault
-byte_fault b s = record { number = 20; shown = 2; first = s.line.number; second = b }
-
-abbrev pub comment_begun : Scan → Scan
-comment_begun s = with_line s (line_of s.line s.line.starts true false s.line.width)
-
-abbrev pub header_begun : Scan → Scan
-header_begun s = with_line s (line_of s.line s.line.starts true true 1)
-
-abbrev pub byte_skipped : List ℕ → ℕ → ℕ → Scan → Result Scan Fault
-byte_skipped bs i b s = pick (is_end b) (line_ended bs i s) (Ok (byte_passed s))
-
-abbrev pub mark_taken : ℕ → Scan → Result Scan Fault
-mark_taken b s =
-    pick (is_digit b) (digit_taken (b - 48) s)
-    (pick (b == 45 && can_negate s.token) (Ok (minus_taken s))
-    (pick (b == 99 && s.line.starts) (Ok (comment_begun s)) (pick (b == 112 && (s.line.starts && no_header s.header)) (Ok (header_begun s)) (Err (byte_fault b s)))))
-
 abbrev pub is_separator : ℕ → Bool
 is_separator b = or (b == 32) (is_end b)
 
-abbrev pub byte_taken : List ℕ → ℕ → ℕ → Scan → Result Scan Fault
-byte_taken bs i b s = pick s.line.skips (byte_skipped bs i b s) (pick (is_separator b && can_end s.token) (Ok (blank_taken b s)) (mark_taken b s))
+abbrev pub byte_skipped : List ℕ → ℕ → Scan → Result Scan Fault
+byte_skipped before b s = pick (is_end b) (pick (in_header s.state) (header_ended (row_of before s.state) s) (Ok (in_state s LineStart))) (Ok s)
 
-abbrev pub table_taken : List ℕ → ℕ → ℕ → Scan → List ℕ
-table_taken xs start b s = pick s.line.skips xs (pick (is_separator b && can_end s.token) (table_done xs start s.token s.tally) xs)
+abbrev pub mark_taken : ℕ → ℕ → Scan → Result Scan Fault
+mark_taken place b s =
+    pick (is_digit b) (digit_taken (b - 48) s)
+    (pick (b == 45 && can_negate s.state) (Ok (in_state s Minus))
+    (pick (is_separator b && can_end s.state) (Ok (number_ended b s))
+    (pick (b == 99 && starts s.state) (Ok (in_state s Comment))
+    (pick (b == 112 && (starts s.state && no_header s.header)) (Ok (in_state s (st.Header place))) (Err (BadByte s.line b))))))
+
+abbrev pub byte_taken : List ℕ → ℕ → Scan → Result Scan Fault
+byte_taken before b s = pick (skips s.state) (byte_skipped before b s) (mark_taken (length before) b s)
+
+abbrev pub rows_taken : List ℕ → ℕ → Scan → List ℕ
+rows_taken xs b s = pick (skips s.state) xs (pick (is_separator b && can_end s.state) (rows_done xs s.state s.tally) xs)
 
 -- AT THE END
-abbrev pub counts_told : Tally → Outcome
-counts_told t = Formula (record { clauses = t.clauses; literals = t.literals; vars = t.vars })
+-- what there is, against what the header says
+abbrev pub promise_kept : Promise → Counts → Result (Unit {0}) Fault
+promise_kept p n = pick (nat_lt p.vars n.vars) (Err (MoreVars n.vars p.vars)) (pick (n.clauses == p.clauses) (Ok tt) (Err (OtherClauses n.clauses p.clauses)))
 
--- two numbers are shown: what there is, and what the header says
-abbrev pub promise_fault : ℕ → ℕ → ℕ → Fault
-promise_fault k is said = record { number = k; shown = 2; first = is; second = said }
+abbrev pub counts_if : Counts → Result (Unit {0}) Fault → Result Counts Fault
+counts_if n (Ok u) = Ok n
+counts_if n (Err f) = Err f
 
-abbrev pub promise_told : Option Promise → Tally → Outcome
-promise_told None t = counts_told t
-promise_told (Some p) t =
-    pick (nat_lt p.vars t.vars) (Wrong (promise_fault 24 t.vars p.vars))
-    (pick (t.clauses == p.clauses) (counts_told t) (Wrong (promise_fault 25 t.clauses p.clauses)))
+abbrev pub promise_checked : Option Promise → Counts → Result Counts Fault
+promise_checked None n = Ok n
+promise_checked (Some p) n = counts_if n (promise_kept p n)
 
-abbrev pub end_told : Option Promise → Tally → ℕ → Outcome
-end_told h t line = pick (t.part == 0) (promise_told h t) (Wrong (fault_at 23 line))
+abbrev pub end_checked : Option Promise → Tally → ℕ → Result Counts Fault
+end_checked h t line = pick (t.part == 0) (promise_checked h t.counts) (Err (OpenClause line))
 
-abbrev pub header_told : Result Promise Fault → Tally → ℕ → Outcome
-header_told (Ok p) t line = end_told (Some p) t line
-header_told (Err f) t line = Wrong f
+abbrev pub header_checked : Result Promise Fault → Tally → ℕ → Result Counts Fault
+header_checked (Ok p) t line = end_checked (Some p) t line
+header_checked (Err f) t line = Err f
 
-abbrev pub scan_told : List ℕ → Scan → Outcome
-scan_told bs s =
-    pick s.line.heading (header_told (heading_read (row_here bs (length bs) s.line.width) s.line.number) (tally_done s.token s.tally) s.line.number)
-    (end_told s.header (tally_done s.token s.tally) s.line.number)
+abbrev pub scan_checked : List ℕ → Scan → Result Counts Fault
+scan_checked bs s =
+    pick (in_header s.state) (header_checked (heading_read (row_of bs s.state) s.line) (tally_done s.state s.tally) s.line)
+    (end_checked s.header (tally_done s.state s.tally) s.line)

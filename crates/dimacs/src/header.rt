@@ -1,10 +1,10 @@
 // The header's line, "p cnf variables clauses": its words between blanks, and the numbers in them.
 // `read_header` promises the answer of the definitions, also for a line that is refused.
-ghost use Rattle.std.specs.Prelude.{◌≡◌, ◌≤◌, length};
-ghost use Rattle.dimacs.specs.Text.{is_blank, is_digit, number_of, word_number};
-ghost use Rattle.dimacs.specs.Heading.{run_of, unblanked, first_word, after_word, with_digit, first_of, is_cnf, begins_header, fault_at, words_read, heading_read};
+ghost use Rattle.std.specs.Prelude.{◌≡◌};
+ghost use Rattle.dimacs.specs.Text.{is_blank, word_number};
+ghost use Rattle.dimacs.specs.Heading.{first_word, after_word, first_of, words_read, heading_read};
 
-use crate::read::Fault;
+use crate::read::{Counts, Fault};
 
 pub const SPACE: u8 = b' ';
 
@@ -14,14 +14,9 @@ const VERTICAL_TAB: u8 = 11;
 
 const FORM_FEED: u8 = 12;
 
-const PLUS: u8 = b'+';
+const FORMAT: &[u8] = b"cnf";
 
 pub const MOST_VARS: u64 = 16384;
-
-// Refusals: too many variables, and a header that isn't one.
-pub const TOO_LARGE: u64 = 21;
-
-const BAD_HEADER: u64 = 22;
 
 // What a header says that there is.
 #[derive(Clone, Copy)]
@@ -30,149 +25,80 @@ pub struct Promise {
     pub clauses: u64,
 }
 
+impl Promise {
+    ghost use Rattle.dimacs.specs.Scanning.{promise_kept};
+
+    // What there is, against what the header says.
+    pub fn check(self, counts: Counts) -> Result<(), Fault>
+        ensures { result ≡ promise_kept self counts }
+    {
+        if counts.vars > self.vars {
+            return Err(Fault::MoreVars {
+                found: counts.vars,
+                said: self.vars,
+            });
+        }
+        if counts.clauses != self.clauses {
+            return Err(Fault::OtherClauses {
+                found: counts.clauses,
+                said: self.clauses,
+            });
+        }
+        Ok(())
+    }
+}
+
 fn is_blank(b: u8) -> bool
     ensures { result ≡ is_blank b }
 {
-    b == SPACE || b == TAB || b == VERTICAL_TAB || b == FORM_FEED
+    matches!(b, SPACE | TAB | VERTICAL_TAB | FORM_FEED)
 }
 
-fn is_digit(b: u8) -> bool
-    ensures { result ≡ is_digit b }
+// A row's first word, and what is behind it.
+fn split_word(row: &[u8]) -> (&[u8], &[u8])
+    ensures word { result.0.now ≡ first_word row.now }
+    ensures rest { result.1.now ≡ after_word row.now }
 {
-    b'0' <= b && b <= b'9'
+    let start = row.iter().position(|b| !is_blank(*b)).unwrap_or(row.len());
+    let row = &row[start..];
+    let end = row.iter().position(|b| is_blank(*b)).unwrap_or(row.len());
+    row.split_at(end)
 }
 
-// How many bytes at the front are blanks, or are none.
-fn leading(row: &[u8], blank: bool) -> usize
-    ensures count { result ≡ run_of blank row.now }
-    ensures within { result ≤ length row.now }
-{
-    for (i, b) in row.iter().enumerate() {
-        if is_blank(*b) != blank {
-            return i;
-        }
-    }
-    row.len()
-}
-
-fn skip_blanks(row: &[u8]) -> &[u8]
-    ensures { result.now ≡ unblanked row.now }
-{
-    &row[leading(row, true)..]
-}
-
-fn first_word(row: &[u8]) -> &[u8]
-    ensures { result.now ≡ first_word row.now }
-{
-    let row = skip_blanks(row);
-    &row[..leading(row, false)]
-}
-
-fn after_word(row: &[u8]) -> &[u8]
-    ensures { result.now ≡ after_word row.now }
-{
-    let row = skip_blanks(row);
-    &row[leading(row, false)..]
-}
-
-// One more digit, if it is one and the number still fits.
-fn with_digit(n: u64, b: u8) -> Option<u64>
-    ensures { result ≡ with_digit n b }
-{
-    if !is_digit(b) {
-        return None;
-    }
-    let digit = (b - b'0') as u64;
-    if n <= (u64::MAX - digit) / 10 {
-        Some(n * 10 + digit)
-    } else {
-        None
-    }
-}
-
-fn digits_number(digits: &[u8]) -> Option<u64>
-    ensures { result ≡ first_of (number_of 0 digits.now) }
-{
-    let mut n = 0;
-    for b in digits {
-        let Some(more) = with_digit(n, *b) else {
-            return None;
-        };
-        n = more;
-    }
-    Some(n)
-}
-
-// A plus may stand before it.
+// The number of a word: digits, behind a plus or none, if it fits.
 fn word_number(word: &[u8]) -> Option<u64>
     ensures { result ≡ first_of (word_number word.now) }
 {
-    if word.is_empty() {
-        return None;
-    }
-    if word[0] != PLUS {
-        return digits_number(word);
-    }
-    if word.len() == 1 {
-        return None;
-    }
-    digits_number(&word[1..])
-}
-
-fn is_cnf(word: &[u8]) -> bool
-    ensures { result ≡ is_cnf word.now }
-{
-    word.len() == 3 && word[0] == b'c' && word[1] == b'n' && word[2] == b'f'
-}
-
-fn begins_header(row: &[u8]) -> bool
-    ensures { result ≡ begins_header row.now }
-{
-    row.len() >= 2 && row[0] == b'p' && row[1] == SPACE
-}
-
-pub fn fault_at(number: u64, line: u64) -> Fault
-    ensures { result ≡ fault_at number line }
-{
-    Fault {
-        number,
-        shown: 1,
-        first: line,
-        second: 0,
-    }
+    str::from_utf8(word).ok()?.parse().ok()
 }
 
 // The numbers of a header from its words, one by one.
 fn read_words(words: &[u8], line: u64) -> Result<Promise, Fault>
     ensures { result ≡ words_read words.now line }
 {
-    if !is_cnf(first_word(words)) {
-        return Err(fault_at(BAD_HEADER, line));
+    let bad = Fault::BadHeader { line };
+    let (word, rest) = split_word(words);
+    if word != FORMAT {
+        return Err(bad);
     }
-    let words = after_word(words);
-    let Some(vars) = word_number(first_word(words)) else {
-        return Err(fault_at(BAD_HEADER, line));
-    };
+    let (word, rest) = split_word(rest);
+    let vars = word_number(word).ok_or(bad)?;
     if vars > MOST_VARS {
-        return Err(fault_at(TOO_LARGE, line));
+        return Err(Fault::TooLarge { line });
     }
-    let words = after_word(words);
-    let Some(clauses) = word_number(first_word(words)) else {
-        return Err(fault_at(BAD_HEADER, line));
-    };
-    if first_word(after_word(words)).is_empty() {
-        Ok(Promise { vars, clauses })
-    } else {
-        Err(fault_at(BAD_HEADER, line))
+    let (word, rest) = split_word(rest);
+    let clauses = word_number(word).ok_or(bad)?;
+    let (word, _) = split_word(rest);
+    if !word.is_empty() {
+        return Err(bad);
     }
+    Ok(Promise { vars, clauses })
 }
 
 // The whole line, without its end.
 pub fn read_header(row: &[u8], line: u64) -> Result<Promise, Fault>
     ensures { result ≡ heading_read row.now line }
 {
-    if !begins_header(row) {
-        return Err(fault_at(BAD_HEADER, line));
-    }
-    read_words(&row[2..], line)
+    let words = row.strip_prefix(b"p ").ok_or(Fault::BadHeader { line })?;
+    read_words(words, line)
 }

@@ -2,18 +2,11 @@
 // `read_formula` promises the answer of the reader that the definitions have, and what the table holds whatever comes.
 ghost use Rattle.std.specs.Prelude.{◌≡◌, length};
 ghost use Rattle.dimacs.specs.Text.{file_read};
-ghost use Rattle.dimacs.specs.Scan.{outcome_of, table_after};
-ghost use Rattle.dimacs.specs.Scanning.{Bounded, table_done, promise_told, end_told, scan_told};
+ghost use Rattle.dimacs.specs.Scan.{outcome_of, outcome_told, number_told, first_told, second_told, table_after};
+ghost use Rattle.dimacs.specs.Scanning.{Bounded, rows_done, scan_checked};
 
-use crate::header::{Promise, fault_at, read_header};
-use crate::scan::{Scan, Tally, finish_number, first_scan, read_byte, row_before};
-
-// Refusals at the end: a clause isn't ended, more variables than the header says, another number of clauses.
-const OPEN_CLAUSE: u64 = 23;
-
-const MORE_VARS: u64 = 24;
-
-const OTHER_CLAUSES: u64 = 25;
+use crate::header::read_header;
+use crate::scan::{Scan, State};
 
 // How many clauses, literals and variables a file has.
 #[derive(Clone, Copy)]
@@ -23,94 +16,87 @@ pub struct Counts {
     pub vars: u64,
 }
 
-// What is wrong in a file: the number of the refusal, and the one or two numbers that are shown with it.
-#[derive(Clone, Copy)]
-pub struct Fault {
-    pub number: u64,
-    pub shown: u64,
-    pub first: u64,
-    pub second: u64,
+// What is wrong in a file, with its line, or with what was found against what the header said.
+#[derive(Clone, Copy, PartialEq, Eq)]
+pub enum Fault {
+    BadByte { line: u64, byte: u8 },
+    TooLarge { line: u64 },
+    BadHeader { line: u64 },
+    OpenClause { line: u64 },
+    MoreVars { found: u64, said: u64 },
+    OtherClauses { found: u64, said: u64 },
 }
 
-#[derive(Clone, Copy)]
-pub enum Outcome {
-    Formula(Counts),
-    Wrong(Fault),
-}
+impl Fault {
+    // The number of the refusal.
+    pub fn number(self) -> u64
+        ensures { result ≡ number_told self }
+    {
+        match self {
+            Fault::BadByte { .. } => 20,
+            Fault::TooLarge { .. } => 21,
+            Fault::BadHeader { .. } => 22,
+            Fault::OpenClause { .. } => 23,
+            Fault::MoreVars { .. } => 24,
+            Fault::OtherClauses { .. } => 25,
+        }
+    }
 
-fn count(tally: Tally) -> Counts
-    ensures { result ≡ record { clauses = tally.clauses; literals = tally.literals; vars = tally.vars } }
-{
-    Counts {
-        clauses: tally.clauses,
-        literals: tally.literals,
-        vars: tally.vars,
+    // The first number that is shown with it.
+    pub fn first(self) -> u64
+        ensures { result ≡ first_told self }
+    {
+        match self {
+            Fault::BadByte { line, .. }
+            | Fault::TooLarge { line }
+            | Fault::BadHeader { line }
+            | Fault::OpenClause { line } => line,
+            Fault::MoreVars { found, .. } | Fault::OtherClauses { found, .. } => found,
+        }
     }
-}
 
-// What there is, against what the header says.
-fn check_promise(header: Option<Promise>, tally: Tally) -> Outcome
-    ensures { result ≡ promise_told header tally }
-{
-    let Some(promise) = header else {
-        return Outcome::Formula(count(tally));
-    };
-    if tally.vars > promise.vars {
-        return Outcome::Wrong(Fault {
-            number: MORE_VARS,
-            shown: 2,
-            first: tally.vars,
-            second: promise.vars,
-        });
+    // The second, where there is one.
+    pub fn second(self) -> Option<u64>
+        ensures { result ≡ second_told self }
+    {
+        match self {
+            Fault::BadByte { byte, .. } => Some(u64::from(byte)),
+            Fault::MoreVars { said, .. } | Fault::OtherClauses { said, .. } => Some(said),
+            _ => None,
+        }
     }
-    if tally.clauses != promise.clauses {
-        return Outcome::Wrong(Fault {
-            number: OTHER_CLAUSES,
-            shown: 2,
-            first: tally.clauses,
-            second: promise.clauses,
-        });
-    }
-    Outcome::Formula(count(tally))
-}
-
-fn tell(header: Option<Promise>, tally: Tally, line: u64) -> Outcome
-    ensures { result ≡ end_told header tally line }
-{
-    if tally.part != 0 {
-        return Outcome::Wrong(fault_at(OPEN_CLAUSE, line));
-    }
-    check_promise(header, tally)
 }
 
 // All bytes are read: the last number is done, and the header if its line isn't ended.
-fn finish(scan: Scan, bytes: &[u8], table: &mut [u64], start: u64) -> Outcome
+fn finish(scan: Scan, bytes: &[u8], rows: &mut [u64]) -> Result<Counts, Fault>
     requires { Bounded (length bytes.now) scan }
-    ensures outcome { result ≡ scan_told bytes.now scan }
-    ensures table { table.new ≡ table_done table.old start scan.token scan.tally }
+    ensures checked { result ≡ scan_checked bytes.now scan }
+    ensures rows { rows.new ≡ rows_done rows.old scan.state scan.tally }
 {
-    let tally = finish_number(scan.token, scan.tally, table, start);
-    let line = scan.line.number;
-    if !scan.line.heading {
-        return tell(scan.header, tally, line);
+    let tally = scan.finish_number(rows);
+    let header = match scan.state {
+        State::Header { start } => Some(read_header(&bytes[start..], scan.line)?),
+        _ => scan.header,
+    };
+    if tally.part != 0 {
+        return Err(Fault::OpenClause { line: scan.line });
     }
-    match read_header(row_before(bytes, bytes.len(), scan.line.width), line) {
-        Ok(promise) => tell(Some(promise), tally, line),
-        Err(fault) => Outcome::Wrong(fault),
+    if let Some(promise) = header {
+        promise.check(tally.counts)?;
     }
+    Ok(tally.counts)
 }
 
 // Reads a file once. Each literal is written into the table as it is done, from `start` on, each clause's length before it.
-pub fn read_formula(bytes: &[u8], table: &mut [u64], start: u64) -> Outcome
-    ensures outcome { result ≡ outcome_of (file_read bytes.now) }
+pub fn read_formula(bytes: &[u8], table: &mut [u64], start: u64) -> Result<Counts, Fault>
+    ensures outcome { outcome_told result ≡ outcome_of (file_read bytes.now) }
     ensures table { table.new ≡ table_after table.old start bytes.now }
 {
-    let mut scan = first_scan();
-    for i in 0..bytes.len() {
-        match read_byte(scan, bytes, i, table, start) {
-            Ok(next) => scan = next,
-            Err(fault) => return Outcome::Wrong(fault),
-        }
+    let start = (start as usize).min(table.len());
+    let rows = &mut table[start..];
+    let mut scan = Scan::new();
+    for (i, b) in bytes.iter().enumerate() {
+        scan = scan.read_byte(&bytes[..i], *b, rows)?;
     }
-    finish(scan, bytes, table, start)
+    finish(scan, bytes, rows)
 }

@@ -1,8 +1,8 @@
 -- A command driven step by step: what has been told so far, and that the rest of the run gives the whole.
 -- One lemma for each way a step can end.
-use Rattle.std.proofs.Common.{◌≡◌, ℕ, suc, ◌+◌, ◌-◌, ◌<◌, ◌≤◌, min, Bool, true, false, ◌&&◌, eqb, leb, List, [], ◌∷◌, ◌++◌, length, take, drop, replicate, Some, None, sym, refl, ap, ◌∙◌, subst, inl, inr, append-nil, arith, length-take}
-use Rattle.std.proofs.lemmas.List.{take_at, take_all}
-use Rattle.std.proofs.lemmas.Bool.{le-leb, and_parts, and_from, cases_lt}
+use Rattle.std.proofs.Common.{◌≡◌, ℕ, suc, ◌+◌, ◌-◌, ◌<◌, ◌≤◌, Bool, true, false, ◌&&◌, eqb, leb, List, [], ◌∷◌, ◌++◌, length, take, drop, Some, None, sym, refl, ap, ◌∙◌, subst, append-nil, arith, length-take}
+use Rattle.std.proofs.lemmas.List.{take_at}
+use Rattle.std.proofs.lemmas.Bool.{le-leb, and_parts, and_from}
 use Rattle.formula.specs.Logic.{pick}
 use Rattle.solver.specs.declared.Told.{Told}
 use Rattle.solver.specs.declared.Told.TheVariants.{Shows, Writes, Done, No}
@@ -156,15 +156,15 @@ module _ (B S A : List ℕ → List ℕ → Type 0) (join : (ss ts ws vs : List 
 
 -- THE ENDS of the loop
 module _ (A : List ℕ → List ℕ → Type 0) (m : List ℕ) (k : ℕ) (row bytes : List ℕ) (n : ℕ) where
-  pub drive_refused : (out : List ℕ) → length out ≡ 128 → step_fits m k row bytes out ≡ false → A [] [] → RunSays A m k row bytes n (run_fits m k row bytes) (Refused 0) m
+  pub drive_refused : run_fits m k row bytes ≡ false → A [] [] → RunSays A m k row bytes n (run_fits m k row bytes) (Refused 0) m
   unfolding RunSays
-  drive_refused out l f a =
-      subst (λ (b : Bool). RunSays A m k row bytes n b (Refused 0) m) (sym (room_only m k row bytes (zeros 128) out (length_zeros 128 ∙ sym l) ∙ f)) (refl, refl, a)
+  drive_refused f a = rw f (refl, refl, a)
 
-  pub drive_starts : (out : List ℕ) → length out ≡ 128 → step_fits m k row bytes out ≡ true → A [] [] → Going A m k row bytes n 0 m k out
+  pub drive_starts : (out : List ℕ) → length out ≡ 128 → run_fits m k row bytes ≡ true → A [] [] → Going A m k row bytes n 0 m k out
   drive_starts out l f a =
       let e : n - 0 ≡ n = omega arith in
-      record { showed = []; wrote = []; rest = ap (λ j. runs j own m (event_of k row bytes) [] []) e; sink = a; fit = f; room = l }
+      let fit : step_fits m k row bytes out ≡ true = room_only m k row bytes out (zeros 128) (l ∙ sym (length_zeros 128)) ∙ f in
+      record { showed = []; wrote = []; rest = ap (λ j. runs j own m (event_of k row bytes) [] []) e; sink = a; fit = fit; room = l }
 
   pub drive_stops : (i : ℕ) (m₁ : List ℕ) (k₁ : ℕ) (out : List ℕ) → n ≤ i → run_fits m k row bytes ≡ true → Going A m k row bytes n i m₁ k₁ out →
       RunSays A m k row bytes n (run_fits m k row bytes) Unfinished m₁
@@ -174,15 +174,13 @@ module _ (A : List ℕ → List ℕ → Type 0) (m : List ℕ) (k : ℕ) (row by
       let r = ap (λ j. runs j own m₁ (event_of k₁ row bytes) g.showed g.wrote) (sym e) ∙ g.rest in
       subst (λ (b : Bool). RunSays A m k row bytes n b Unfinished m₁) (sym f) (subst (λ (x : Ran). Ended A x 1000 m₁) r (refl, refl, g.sink))
 
-pub fits_zeros : (m : List ℕ) (k : ℕ) (row bytes : List ℕ) → step_fits m k row bytes (replicate 128 0) ≡ true → run_fits m k row bytes ≡ true
-fits_zeros m k row bytes f = room_only m k row bytes (zeros 128) (replicate 128 0) (length_zeros 128) ∙ f
-
--- what is written is cut to the room there is
-pub handed_writes : (S : List ℕ → List ℕ → Type 0) (t : Told) (n l : ℕ) (out : List ℕ) → t ≡ Writes n → l ≡ min n (length out) → S [] (take (l - 0) out) → Handed S t out None
-handed_writes S t n l out e d s = subst (λ (x : Told). Handed S x out None) (sym e) (subst (λ (ws : List ℕ). S [] ws) cut s)
+pub run_fits_is : (m : List ℕ) (k : ℕ) (row bytes : List ℕ) → run_fits m k row bytes
+    ≡ (eqb (length m) 524288 && (leb k 9 && (leb (length row) 1048576 && leb (length bytes) 1048576)))
+run_fits_is m k row bytes =
+    fits_is m k row bytes (zeros 128)
+    ∙ ap (λ b. eqb (length m) 524288 && (leb k 9 && b))
+    (ap (λ n. (leb (length row) 1048576 && leb (length bytes) 1048576) && leb 128 n) (length_zeros 128) ∙ and_true _)
   where
-    cut : take (l - 0) out ≡ take n out
-    cut = elim (cases_lt n (length out)) [
-      | inl h ↦ ap (λ j. take j out) (omega arith)
-      | inr h ↦ take_all (l - 0) out (omega arith) ∙ sym (take_all n out h)
-    ]
+    and_true : (b : Bool) → (b && true) ≡ b
+    and_true true = refl
+    and_true false = refl

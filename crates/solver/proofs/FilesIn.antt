@@ -4,8 +4,7 @@ use Rattle.std.proofs.Common.{◌≡◌, ℕ, suc, ◌<◌, ◌≤◌, Bool, tru
 use Rattle.std.proofs.lemmas.Bool.{and_from, le-leb, lt-ltb}
 use Rattle.formula.specs.Logic.{pick, every}
 use Rattle.dimacs.specs.Text.{file_read}
-use Rattle.dimacs.specs.Scan.{table_after, outcome_of}
-use Rattle.dimacs.specs.declared.read.Outcome.{Outcome}
+use Rattle.dimacs.specs.Scan.{Outcome, table_after, outcome_of}
 use Rattle.solver.specs.declared.Told.{Told}
 use Rattle.solver.specs.Promise.{refused}
 use Rattle.solver.specs.State.{State, with_arena, arena_len}

@@ -23,3 +23,5 @@ pub mod Wholly
 pub mod PrintsBack
 pub mod Drives
 pub mod FilesIn
+pub mod KindNumbers
+pub mod Counting

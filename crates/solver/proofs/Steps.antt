@@ -1,15 +1,13 @@
 -- One step as it is told, from what an event does to the tables: `StepSays` from the view of the memory before and after.
--- The lemmas below `steps` name the event of each kind, and say that no act of theirs writes bytes.
-use Rattle.std.proofs.Common.{◌≡◌, ℕ, ◌<◌, ◌≤◌, min, Bool, true, false, ◌&&◌, eqb, ltb, leb, List, [], ◌∷◌, length, get_or, sym, refl, ap, ◌∙◌, subst, inl, inr, arith}
-use mathlib.Core.Bool.{false≢true}
+-- The lemmas below `steps` say of which acts no byte is written, and that refusals have fair numbers.
+use Rattle.std.proofs.Common.{◌≡◌, ℕ, ◌<◌, ◌≤◌, min, Bool, true, false, ◌&&◌, eqb, ltb, leb, List, ◌++◌, length, get_or, take, drop, sym, refl, ap, ◌∙◌, subst, inl, inr, arith, append_assoc, length-append, length-take}
+use Rattle.std.proofs.lemmas.List.{drop-append-le, take-append-drop}
 use lib.ListN.{length-replicate}
 use Rattle.std.proofs.lemmas.Bool.{eq-eqb, eqb-true, ne_eqb, and_parts, and_from, le-leb, leb-true, lt-ltb, cases_eq, cases_Bool}
 use Rattle.formula.specs.Logic.{pick, none_of, Clause}
 use Rattle.dimacs.specs.Text.{file_read}
 use Rattle.dimacs.specs.Statements.{lits_fit}
-use Rattle.dimacs.specs.Scan.{table_after, outcome_of}
-use Rattle.dimacs.specs.declared.read.Outcome.{Outcome}
-use Rattle.dimacs.specs.declared.read.Outcome.TheVariants.{Formula, Wrong}
+use Rattle.dimacs.specs.Scan.{Outcome, Formula, Wrong, table_after, outcome_of}
 use Rattle.search.specs.declared.plain.Finding.{Finding}
 use Rattle.search.specs.declared.plain.Finding.TheVariants.{Exhausted, Back, Conflict, Failed, Open, Full}
 use Rattle.search.specs.Plain.{look}
@@ -18,9 +16,9 @@ use Rattle.solver.specs.declared.Told.TheVariants.{No}
 use Rattle.solver.specs.House.{new_var, add, assume, solve, model_of, failed_core, read_file, print_it, prove}
 use Rattle.solver.specs.Promise.{Event, said, next, Act, shows, writes, done, refused}
 use Rattle.solver.specs.State.{State, view, flat, zeros, with_arena, num_vars, num_assumptions, arena_len, verdict, phase, cursor, lits_left, clauses_left, pending, ending, formula, assumed}
-use Rattle.solver.specs.Machine.{Turn, turn, on_new_var, on_add, on_assume, on_solve, on_model, on_core, on_print, on_read, on_outcome, clause_fits, counts_fit, file_fits, on_command, on_next, searched, searching, showing, showing_core, printing, telling, on_event, machine_step}
+use Rattle.solver.specs.Machine.{Turn, on_new_var, on_add, on_assume, on_solve, on_model, on_core, on_read, on_outcome, clause_fits, counts_fit, file_fits, on_command, on_next, searched, searching, showing, showing_core, printing, telling, on_event, machine_step}
 use Rattle.solver.specs.Entry.{own, event_of, ActTold, StepSays, step_fits}
-use Rattle.solver.specs.Coded.{Sized, told, written_to}
+use Rattle.solver.specs.Coded.{Sized, Takes, told, written_to}
 use Rattle.solver.proofs.MemoryMap.{flat_view}
 
 pub start_length : length own.start ≡ 524288
@@ -33,19 +31,27 @@ unfolding step_fits
 fits_is m k row bytes out =
     ap (λ n. eqb (length m) n && (leb k 9 && ((leb (length row) 1048576 && leb (length bytes) 1048576) && leb 128 (length out)))) start_length
 
+pub fits_kind : (m : List ℕ) (k : ℕ) (row bytes out : List ℕ) → step_fits m k row bytes out ≡ true → k ≤ 9
+fits_kind m k row bytes out e = leb-true k 9 (and_parts (leb k 9) _ (and_parts (eqb (length m) 524288) _ (sym (fits_is m k row bytes out) ∙ e)).1).0
+
 pub fits_sized : (m : List ℕ) (k : ℕ) (row bytes out : List ℕ) → step_fits m k row bytes out ≡ true → Sized m
 fits_sized m k row bytes out e = eqb-true _ _ (and_parts _ _ (sym (fits_is m k row bytes out) ∙ e)).0
 
-pub fits_bytes : (m : List ℕ) (k : ℕ) (row bytes out : List ℕ) → step_fits m k row bytes out ≡ true → length bytes ≤ 1048576
-fits_bytes m k row bytes out e =
+pub fits_short : (m : List ℕ) (k : ℕ) (row bytes out : List ℕ) → step_fits m k row bytes out ≡ true
+    → (leb (length row) 1048576 && leb (length bytes) 1048576) ≡ true
+fits_short m k row bytes out e =
     let p = and_parts (leb k 9) _ (and_parts (eqb (length m) 524288) _ (sym (fits_is m k row bytes out) ∙ e)).1 in
-    let q = and_parts (leb (length row) 1048576 && leb (length bytes) 1048576) _ p.1 in
-    leb-true _ _ (and_parts (leb (length row) 1048576) _ q.0).1
+    (and_parts (leb (length row) 1048576 && leb (length bytes) 1048576) _ p.1).0
 
 pub fits_room : (m : List ℕ) (k : ℕ) (row bytes out : List ℕ) → step_fits m k row bytes out ≡ true → 128 ≤ length out
 fits_room m k row bytes out e =
     let p = and_parts (leb k 9) _ (and_parts (eqb (length m) 524288) _ (sym (fits_is m k row bytes out) ∙ e)).1 in
     leb-true _ _ (and_parts (leb (length row) 1048576 && leb (length bytes) 1048576) _ p.1).1
+
+pub fits_all : (m : List ℕ) (k : ℕ) (row bytes out : List ℕ) → Sized m → k ≤ 9 → (leb (length row) 1048576 && leb (length bytes) 1048576) ≡ true
+    → 128 ≤ length out → step_fits m k row bytes out ≡ true
+fits_all m k row bytes out h n s l =
+    fits_is m k row bytes out ∙ and_from _ _ (eq-eqb _ _ h) (and_from _ _ (le-leb _ _ n) (and_from _ _ s (le-leb _ _ l)))
 
 -- an act that writes no byte, and whose refusal has a number below 1,000
 abbrev pub quiet : Act → Bool
@@ -53,14 +59,6 @@ quiet (shows n) = true
 quiet (writes w) = none_of w
 quiet done = true
 quiet (refused k) = leb 1 k && ltb k 1000
-
-pub quiet_written : (a : Act) (out : List ℕ) → quiet a ≡ true → written_to a out ≡ out
-unfolding none_of
-quiet_written (shows n) out q = refl
-quiet_written (writes []) out q = refl
-quiet_written (writes (b ∷ w)) out q = absurd (false≢true q)
-quiet_written done out q = refl
-quiet_written (refused k) out q = refl
 
 act_told : (a : Act) (out : List ℕ) → ActTold a (told a) out (written_to a out)
 unfolding ActTold
@@ -78,54 +76,14 @@ steps m m₁ k row bytes out out₁ r t f l e s a w =
     rw (f, eq-eqb _ _ h, e)
     (sym (flat_view m₁ (l ∙ h)) ∙ ap flat s, subst (λ (x : Told). ActTold t.act x out out₁) a (subst (λ (x : List ℕ). ActTold t.act (told t.act) out x) w (act_told t.act out)))
 
-pub stays : (m : List ℕ) (k : ℕ) (row bytes out : List ℕ) → step_fits m k row bytes out ≡ false
-    → StepSays m k row bytes out (step_fits m k row bytes out) (No 0) m out
+-- what doesn't fit stays
+pub stays : (m : List ℕ) (k : ℕ) (row bytes out : List ℕ) (r : Told) → r ≡ No 0 → (step_fits m k row bytes out ≡ true → ⊥)
+    → StepSays m k row bytes out (step_fits m k row bytes out) r m out
 unfolding StepSays
-stays m k row bytes out e = rw e (refl, refl, refl)
+stays m k row bytes out r told unfit =
+    elim (cases_Bool (step_fits m k row bytes out)) [ inl e ↦ absurd (unfit e) | inr e ↦ rw e (told, refl, refl) ]
 
--- THE KINDS
-module _ (s : State) (row bytes : List ℕ) where
-  pub kind_0 : on_event s (event_of 0 row bytes) ≡ on_new_var s
-  unfolding event_of on_event on_command
-  kind_0 = refl
-
-  pub kind_1 : on_event s (event_of 1 row bytes) ≡ on_add s row
-  unfolding event_of on_event on_command
-  kind_1 = refl
-
-  pub kind_2 : on_event s (event_of 2 row bytes) ≡ on_assume s row
-  unfolding event_of on_event on_command
-  kind_2 = refl
-
-  pub kind_3 : on_event s (event_of 3 row bytes) ≡ on_solve s
-  unfolding event_of on_event on_command
-  kind_3 = refl
-
-  pub kind_4 : on_event s (event_of 4 row bytes) ≡ on_model s
-  unfolding event_of on_event on_command
-  kind_4 = refl
-
-  pub kind_5 : on_event s (event_of 5 row bytes) ≡ on_core s
-  unfolding event_of on_event on_command
-  kind_5 = refl
-
-  pub kind_6 : on_event s (event_of 6 row bytes) ≡ on_read s bytes
-  unfolding event_of on_event on_command
-  kind_6 = refl
-
-  pub kind_7 : on_event s (event_of 7 row bytes) ≡ on_print s
-  unfolding event_of on_event on_command
-  kind_7 = refl
-
-  kind_8 : on_event s (event_of 8 row bytes) ≡ turn s (refused 2)
-  unfolding event_of on_event on_command
-  kind_8 = refl
-
-  pub kind_9 : on_event s (event_of 9 row bytes) ≡ on_next s
-  unfolding event_of on_event on_command
-  kind_9 = refl
-
--- THEIR ACTS
+-- THE ACTS
 pick_quiet : (b : Bool) (x y : Turn) → quiet x.act ≡ true → quiet y.act ≡ true → quiet (pick b x y).act ≡ true
 pick_quiet true x y p q = p
 pick_quiet false x y p q = q
@@ -231,11 +189,23 @@ pub own_fair : (m : List ℕ) (ev : Event) → fair (own.step m ev).act ≡ true
 unfolding own machine_step
 own_fair m ev = elim (cases_Bool (eqb (length m) 524288)) [ inl e ↦ rw e (event_fair (view m) ev) | inr e ↦ rw e refl ]
 
--- the kind that isn't known
-pub step_unknown : (m : List ℕ) (k : ℕ) (row bytes out : List ℕ) → step_fits m k row bytes out ≡ true →
-    (k ≡ 0 → ⊥) → (k ≡ 1 → ⊥) → (k ≡ 2 → ⊥) → (k ≡ 3 → ⊥) → (k ≡ 4 → ⊥) → (k ≡ 5 → ⊥) → (k ≡ 6 → ⊥) → (k ≡ 7 → ⊥) → (k ≡ 9 → ⊥) →
-    StepSays m k row bytes out (step_fits m k row bytes out) (No 2) m out
-step_unknown m k row bytes out f n₀ n₁ n₂ n₃ n₄ n₅ n₆ n₇ n₉ =
-    let h = leb-true k 9 (and_parts (leb k 9) _ (and_parts (eqb (length m) 524288) _ (sym (fits_is m k row bytes out) ∙ f)).1).0 in
-    let e : k ≡ 8 = omega arith in
-    steps m m k row bytes out out (No 2) (turn (view m) (refused 2)) f refl (ap (λ n. on_event (view m) (event_of n row bytes)) e ∙ kind_8 (view m) row bytes) refl refl refl
+-- a step with what fits, taken
+pub step_taken : (m m₁ : List ℕ) (k n : ℕ) (row bytes out out₁ : List ℕ) (r : Told) → step_fits m k row bytes out ≡ true → n ≡ k → length m₁ ≡ length m
+    → Takes (on_event (view m) (event_of n row bytes)) m₁ r → written_to (on_event (view m) (event_of n row bytes)).act out ≡ out₁
+    → StepSays m k row bytes out (step_fits m k row bytes out) r m₁ out₁
+step_taken m m₁ k n row bytes out out₁ r f e l t w =
+    steps m m₁ k row bytes out out₁ r (on_event (view m) (event_of n row bytes)) f l (ap (λ i. on_event (view m) (event_of i row bytes)) (sym e)) t.after t.answer w
+
+-- what an act writes into the first bytes of a row, it writes into the row
+pub written_on : (a : Act) (b b₁ out : List ℕ) → b ≡ take 128 out → 128 ≤ length out → length b₁ ≡ 128 → written_to a b ≡ b₁
+    → written_to a out ≡ b₁ ++ drop 128 out
+written_on (shows n) b b₁ out e h l w = sym (ap (λ (x : List ℕ). x ++ drop 128 out) (sym w ∙ e) ∙ take-append-drop 128 out)
+written_on (writes ws) b b₁ out e h l w =
+    let q = length-append ws (drop (length ws) b) in
+    let long : length ws ≤ 128 = grind arith in
+    let deep : length ws ≤ length (take 128 out) = simp length-take (omega arith) in
+    sym (ap (λ (x : List ℕ). x ++ drop 128 out) (sym w ∙ ap (λ (x : List ℕ). ws ++ drop (length ws) x) e)
+    ∙ (append_assoc ws (drop (length ws) (take 128 out)) (drop 128 out)
+    ∙ ap (λ (x : List ℕ). ws ++ x) (sym (drop-append-le (length ws) (take 128 out) (drop 128 out) deep) ∙ ap (drop (length ws)) (take-append-drop 128 out))))
+written_on done b b₁ out e h l w = sym (ap (λ (x : List ℕ). x ++ drop 128 out) (sym w ∙ e) ∙ take-append-drop 128 out)
+written_on (refused k) b b₁ out e h l w = sym (ap (λ (x : List ℕ). x ++ drop 128 out) (sym w ∙ e) ∙ take-append-drop 128 out)

@@ -1,27 +1,11 @@
--- Turns of the search as the code takes them: which of them mark an assumption, and the model recorded literal by literal.
+-- The model recorded literal by literal.
 -- Each lemma is one way through the code.
-use Rattle.std.proofs.Common.{◌≡◌, ℕ, zero, suc, ◌+◌, ◌<◌, ltb, List, set, sym, refl, ap, ◌∙◌, add-one, arith}
+use Rattle.std.proofs.Common.{◌≡◌, ℕ, zero, suc, ◌+◌, ◌<◌, ltb, set, refl, ap, ◌∙◌, add-one, arith}
 use lib.Seq.{sets}
 use Rattle.std.proofs.lemmas.Bool.{lt-ltb}
 use Rattle.formula.specs.Logic.{pick}
-use Rattle.search.specs.declared.plain.Finding.{Finding}
-use Rattle.search.specs.declared.plain.Finding.TheVariants.{Exhausted, Back, Conflict, Failed, Open, Full}
-use Rattle.search.specs.Plain.{act, mark, model_lit, model_row}
-use Rattle.solver.specs.State.{State, with_work, with_core, with_model}
-use Rattle.solver.specs.Machine.{with_turn}
-
-pub turn_marks : (s : State) (f : Finding) (i : ℕ) → f ≡ Failed i → with_core (with_work s (act s.work f)) (set s.core i 1) ≡ with_turn s f
-unfolding mark
-turn_marks s f i e = ap (λ (ks : List ℕ). with_core (with_work s (act s.work f)) ks) (sym (ap (mark s.core) e))
-
-pub turn_plain : (s : State) (f : Finding) → ((i : ℕ) → f ≡ Failed i → ⊥) → with_work s (act s.work f) ≡ with_turn s f
-unfolding mark
-turn_plain s Exhausted n = refl
-turn_plain s Back n = refl
-turn_plain s Conflict n = refl
-turn_plain s (Failed i) n = absurd (n i refl)
-turn_plain s Open n = refl
-turn_plain s Full n = refl
+use Rattle.search.specs.Plain.{model_lit, model_row}
+use Rattle.solver.specs.State.{State, with_model}
 
 -- THE MODEL RECORDED: k literals from variable v on
 abbrev pub recorded : State → ℕ → ℕ → State

@@ -8,3 +8,8 @@ pub mod Entry
 pub mod Coded
 pub mod Running
 pub mod Collected
+pub mod Kind
+pub mod Tables
+pub mod Refusals
+pub mod Phases
+pub mod Scalars

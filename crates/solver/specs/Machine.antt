@@ -5,11 +5,9 @@ use Rattle.std.proofs.lemmas.List.Edits.{sets}
 use Rattle.formula.specs.Logic.{pick, every, none_of, Clause}
 use Rattle.formula.specs.Arena.{clause_row}
 use Rattle.dimacs.specs.Text.{row_vars, larger, file_read}
-use Rattle.dimacs.specs.Scan.{table_after, outcome_of}
+use Rattle.dimacs.specs.Scan.{Outcome, Formula, Wrong, table_after, outcome_of}
 use Rattle.dimacs.specs.Pieces.{header_text, literal_piece, end_piece}
 use Rattle.dimacs.specs.declared.read.Counts.{Counts}
-use Rattle.dimacs.specs.declared.read.Outcome.{Outcome}
-use Rattle.dimacs.specs.declared.read.Outcome.TheVariants.{Formula, Wrong}
 use Rattle.dimacs.specs.Statements.{lits_fit}
 use Rattle.search.specs.declared.plain.Finding.{Finding}
 use Rattle.search.specs.declared.plain.Finding.TheVariants.{Exhausted, Back, Conflict, Failed, Open, Full}

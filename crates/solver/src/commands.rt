@@ -1,45 +1,47 @@
-// What each command does to the memory before the machine goes on by itself: new, add, assume, solve, model.
-// Each check hands on its value or leaves with the number of the refusal; what is refused changes nothing.
-ghost use Rattle.std.specs.Prelude.{◌≡◌, ◌+◌, ◌<◌, ◌≤◌, ◌&&◌, length, IfSome, Some, None, ◌==◌, nat_le, nat_lt};
+// What each command does to the memory before the machine goes on by itself.
+// Each promises the turn that the machine's definition of it has.
+ghost use Rattle.std.specs.Prelude.{◌≡◌, ◌+◌, ◌-◌, ◌<◌, ◌≤◌, ◌&&◌, length, IfSome, Some, None, ◌==◌, nat_le, nat_lt};
 ghost use Rattle.formula.specs.Logic.{pick};
 ghost use Rattle.formula.specs.declared.clause.Place.{Place};
-ghost use Rattle.solver.specs.declared.commands.Room.{Room};
-ghost use Rattle.dimacs.specs.Text.{row_vars, larger};
+ghost use Rattle.dimacs.specs.Text.{row_vars};
 ghost use Rattle.dimacs.specs.Statements.{lits_fit};
-ghost use Rattle.dimacs.specs.declared.read.Outcome.TheVariants.{Formula, Wrong};
-ghost use Rattle.solver.specs.State.{view, num_vars, num_clauses, arena_len, verdict};
-ghost use Rattle.solver.specs.Machine.{on_new_var, on_add, on_assume, on_solve, on_model, on_core, on_print, on_read, on_outcome, clause_fits, counts_fit};
-ghost use Rattle.solver.specs.Coded.{Sized, WithinRoom, told, written_to};
+ghost use Rattle.dimacs.specs.Scan.{Formula, Wrong, refusal_told};
+ghost use Rattle.solver.specs.State.{view, num_vars, num_clauses, arena_len};
+ghost use Rattle.solver.specs.Machine.{on_new_var, on_add, on_assume, on_solve, on_model, on_core, on_print, on_read, on_outcome, clause_fits};
+ghost use Rattle.solver.specs.Coded.{Takes, TakesAndWrites, enlarged, tells};
 
-use crate::Told;
+use crate::going::finish;
 use crate::limits::*;
+use crate::phase::Phase;
+use crate::refusal::Refusal;
+use crate::scalar::Scalar;
 use crate::tables::*;
-use dimacs::read::{Counts, Fault, Outcome};
+use crate::{Buffer, Told};
+use dimacs::read::{Counts, Fault};
 use dimacs::write::put_header;
-use formula::clause::Place;
+use formula::clause::{Place, store};
 use formula::literal::variable;
+use formula::table::write_row;
+use search::plain;
 
-fn larger_of(a: u64, b: u64) -> u64
-    ensures { result ≡ larger a b }
+fn all_fit(row: &[u64]) -> bool
+    ensures { result ≡ lits_fit row.now }
 {
-    if a < b { b } else { a }
+    row.iter().all(|lit| *lit <= MAX_LITERAL)
 }
 
-// How many variables a row's literals need, if it is one that can be taken.
+// How many variables a row's literals need.
+fn vars_of(row: &[u64]) -> u64
+    ensures { result ≡ row_vars row.now }
+{
+    row.iter().fold(0, |vars, lit| vars.max(variable(*lit) + 1))
+}
+
+// The same, if it is a row that can be taken.
 fn checked_row(row: &[u64]) -> Option<u64>
     ensures { result ≡ pick (lits_fit row.now && nat_le (length row.now) 1024) (Some (row_vars row.now)) None }
 {
-    if row.len() > MAX_ROW {
-        return None;
-    }
-    let mut vars = 0;
-    for lit in row {
-        if *lit > MAX_LITERAL {
-            return None;
-        }
-        vars = larger_of(vars, variable(*lit) + 1);
-    }
-    Some(vars)
+    (row.len() <= MAX_ROW && all_fit(row)).then(|| vars_of(row))
 }
 
 // A yes doesn't outlive a new variable.
@@ -64,236 +66,193 @@ fn only_never(verdict: u64) -> u64
 }
 
 // The number of the next variable, if there is room for one.
-fn next_var(m: &[u64]) -> Option<u64>
-    requires { Sized m.now }
+fn next_var(m: &Memory) -> Option<u64>
     ensures number { result ≡ pick (nat_lt (num_vars (view m.now)) 16384) (Some (num_vars (view m.now))) None }
     ensures bound { IfSome result (λ n. n < 16384) }
 {
-    let vars = read(m, NUM_VARS);
-    if vars < MAX_VARS { Some(vars) } else { None }
+    let vars = read(m, Scalar::NumVars);
+    (vars < MAX_VARS).then_some(vars)
 }
 
-pub fn new_var(m: &mut [u64]) -> Told
-    requires { Sized m.old }
-    ensures after { view m.new ≡ (on_new_var (view m.old)).state }
-    ensures answer { told (on_new_var (view m.old)).act ≡ result }
+pub fn new_var(m: &mut Memory) -> Told
+    ensures { Takes (on_new_var (view m.old)) m.new result }
 {
     let Some(vars) = next_var(m) else {
-        return Told::No(7);
+        return Refusal::NoRoom.into();
     };
-    let verdict = without_yes(read(m, VERDICT));
-    write(m, NUM_VARS, vars + 1);
-    write(m, VERDICT, verdict);
-    write(m, PHASE, RESTING);
+    let verdict = without_yes(read(m, Scalar::Verdict));
+    write(m, Scalar::NumVars, vars + 1);
+    write(m, Scalar::Verdict, verdict);
+    set_phase(m, Phase::Resting);
     Told::Shows(vars)
 }
 
-// Where a clause has room.
-fn free_place(m: &[u64], clause: &[u64]) -> Option<Place>
-    requires { Sized m.now }
-    ensures room { result ≡ pick (clause_fits (view m.now) clause.now) (Some (record { start = arena_len (view m.now); len = length clause.now })) None }
-    ensures bounds { WithinRoom result (num_clauses (view m.now)) }
+// Whether there is room for so many more clauses and literals.
+fn has_room(m: &Memory, clauses: u64, literals: u64) -> bool
+    ensures { result ≡ (nat_le (num_clauses (view m.now) + clauses) 16384 && nat_le (arena_len (view m.now) - num_clauses (view m.now) + literals) 65536) }
 {
-    let clauses = read(m, NUM_CLAUSES);
-    let start = read(m, ARENA_LEN);
-    let len = clause.len() as u64;
-    if clauses >= MAX_CLAUSES {
-        return None;
-    }
-    if len > MAX_LITERALS || start.saturating_sub(clauses) > MAX_LITERALS - len {
-        return None;
-    }
-    Some(Place { start, len })
+    let have = read(m, Scalar::NumClauses);
+    let laid = read(m, Scalar::ArenaLen).saturating_sub(have);
+    clauses <= MAX_CLAUSES
+        && have <= MAX_CLAUSES - clauses
+        && literals <= MAX_LITERALS
+        && laid <= MAX_LITERALS - literals
 }
 
-pub fn add(m: &mut [u64], clause: &[u64]) -> Told
-    requires { Sized m.old }
-    ensures after { view m.new ≡ (on_add (view m.old) clause.now).state }
-    ensures answer { told (on_add (view m.old) clause.now).act ≡ result }
+// Where a clause has room.
+fn free_place(m: &Memory, clause: &[u64]) -> Option<Place>
+    ensures { result ≡ pick (clause_fits (view m.now) clause.now) (Some (record { start = arena_len (view m.now); len = length clause.now })) None }
+{
+    let start = read(m, Scalar::ArenaLen);
+    let len = clause.len() as u64;
+    has_room(m, 1, len).then_some(Place { start, len })
+}
+
+// So many clauses more, which lie in the arena already.
+fn grow(m: &mut Memory, counts: Counts)
+    requires clauses { num_clauses (view m.old) + counts.clauses ≤ 16384 }
+    requires literals { arena_len (view m.old) - num_clauses (view m.old) + counts.literals ≤ 65536 }
+    ensures { view m.new ≡ enlarged (view m.old) counts }
+{
+    let vars = read(m, Scalar::NumVars).max(counts.vars);
+    let clause_vars = read(m, Scalar::ClauseVars).max(counts.vars);
+    let clauses = read(m, Scalar::NumClauses) + counts.clauses;
+    let end = read(m, Scalar::ArenaLen) + (counts.literals + counts.clauses);
+    let verdict = only_no(read(m, Scalar::Verdict));
+    write(m, Scalar::NumVars, vars);
+    write(m, Scalar::ClauseVars, clause_vars);
+    write(m, Scalar::NumClauses, clauses);
+    write(m, Scalar::ArenaLen, end);
+    write(m, Scalar::Verdict, verdict);
+}
+
+pub fn add(m: &mut Memory, clause: &[u64]) -> Told
+    ensures { Takes (on_add (view m.old) clause.now) m.new result }
 {
     let Some(vars) = checked_row(clause) else {
-        return Told::No(6);
+        return Refusal::BadRow.into();
     };
     let Some(place) = free_place(m, clause) else {
-        return Told::No(7);
+        return Refusal::NoRoom.into();
     };
-    let clause_vars = larger_of(read(m, CLAUSE_VARS), vars);
-    let vars = larger_of(read(m, NUM_VARS), vars);
-    let clauses = read(m, NUM_CLAUSES) + 1;
-    let verdict = only_no(read(m, VERDICT));
-    store_clause(m, place.start, clause);
-    write(m, NUM_VARS, vars);
-    write(m, CLAUSE_VARS, clause_vars);
-    write(m, NUM_CLAUSES, clauses);
-    write(m, ARENA_LEN, place.start + (place.len + 1));
-    write(m, VERDICT, verdict);
-    write(m, PHASE, RESTING);
-    Told::Done
-}
-
-fn answer_of(verdict: u64) -> u64
-    ensures { result ≡ pick (verdict == 1) 1 0 }
-{
-    if verdict == YES { 1 } else { 0 }
+    let one = Counts {
+        clauses: 1,
+        literals: place.len,
+        vars,
+    };
+    change(m, Table::Arena, |arena| store(arena, place.start, clause));
+    grow(m, one);
+    finish(m)
 }
 
 // What is known is told again; else the search begins.
-pub fn solve(m: &mut [u64]) -> Told
-    requires { Sized m.old }
-    ensures after { view m.new ≡ (on_solve (view m.old)).state }
-    ensures answer { told (on_solve (view m.old)).act ≡ result }
+pub fn solve(m: &mut Memory) -> Told
+    ensures { Takes (on_solve (view m.old)) m.new result }
 {
-    let verdict = read(m, VERDICT);
+    let verdict = read(m, Scalar::Verdict);
     if verdict != UNKNOWN {
-        write(m, PHASE, RESTING);
-        return Told::Shows(answer_of(verdict));
+        set_phase(m, Phase::Resting);
+        return Told::Shows(u64::from(verdict == YES));
     }
-    start_search(m);
+    change(m, Table::Work, plain::start);
     clear_core(m);
-    write(m, PHASE, SEARCHING);
+    set_phase(m, Phase::Searching);
     Told::Writes(0)
 }
 
-pub fn model(m: &mut [u64]) -> Told
-    requires { Sized m.old }
-    ensures after { view m.new ≡ (on_model (view m.old)).state }
-    ensures answer { told (on_model (view m.old)).act ≡ result }
+pub fn model(m: &mut Memory) -> Told
+    ensures { Takes (on_model (view m.old)) m.new result }
 {
-    let YES = read(m, VERDICT) else {
-        return Told::No(4);
+    let YES = read(m, Scalar::Verdict) else {
+        return Refusal::NotKnown.into();
     };
-    write(m, CURSOR, 0);
-    write(m, PHASE, SHOWING);
+    write(m, Scalar::Cursor, 0);
+    set_phase(m, Phase::Showing);
     Told::Writes(0)
 }
 
-pub fn assume(m: &mut [u64], row: &[u64]) -> Told
-    requires { Sized m.old }
-    ensures after { view m.new ≡ (on_assume (view m.old) row.now).state }
-    ensures answer { told (on_assume (view m.old) row.now).act ≡ result }
+pub fn assume(m: &mut Memory, row: &[u64]) -> Told
+    ensures { Takes (on_assume (view m.old) row.now) m.new result }
 {
     let Some(vars) = checked_row(row) else {
-        return Told::No(6);
+        return Refusal::BadRow.into();
     };
-    let vars = larger_of(read(m, NUM_VARS), vars);
-    let verdict = only_never(read(m, VERDICT));
-    write_assumptions(m, row);
-    write(m, NUM_VARS, vars);
-    write(m, NUM_ASSUMPTIONS, row.len() as u64);
-    write(m, VERDICT, verdict);
-    write(m, PHASE, RESTING);
-    Told::Done
+    let vars = read(m, Scalar::NumVars).max(vars);
+    let verdict = only_never(read(m, Scalar::Verdict));
+    change(m, Table::Assumptions, |table| write_row(table, 0, row));
+    write(m, Scalar::NumVars, vars);
+    write(m, Scalar::NumAssumptions, row.len() as u64);
+    write(m, Scalar::Verdict, verdict);
+    finish(m)
 }
 
 // A core that isn't empty is shown an assumption at a time; of an empty one there is nothing to show.
-pub fn core(m: &mut [u64]) -> Told
-    requires { Sized m.old }
-    ensures after { view m.new ≡ (on_core (view m.old)).state }
-    ensures answer { told (on_core (view m.old)).act ≡ result }
+pub fn core(m: &mut Memory) -> Told
+    ensures { Takes (on_core (view m.old)) m.new result }
 {
-    match read(m, VERDICT) {
+    match read(m, Scalar::Verdict) {
         NO => {
-            write(m, CURSOR, 0);
-            write(m, PHASE, SHOWING_CORE);
+            write(m, Scalar::Cursor, 0);
+            set_phase(m, Phase::ShowingCore);
             Told::Writes(0)
         }
-        NEVER => {
-            write(m, PHASE, RESTING);
-            Told::Done
-        }
-        _ => Told::No(4),
+        NEVER => finish(m),
+        _ => Refusal::NotKnown.into(),
     }
 }
 
 // The header; the clauses come as it goes on.
-pub fn print(m: &mut [u64], out: &mut [u8]) -> Told
-    requires { (Sized m.old) × (128 ≤ length out.old) }
-    ensures after { view m.new ≡ (on_print (view m.old)).state }
-    ensures answer { told (on_print (view m.old)).act ≡ result }
-    ensures bytes { written_to (on_print (view m.old)).act out.old ≡ out.new }
+pub fn print(m: &mut Memory, out: &mut Buffer) -> Told
+    ensures { TakesAndWrites (on_print (view m.old)) m.new result out.old out.new }
 {
-    let vars = read(m, CLAUSE_VARS);
-    let clauses = read(m, NUM_CLAUSES);
-    write(m, CURSOR, 0);
-    write(m, LITS_LEFT, 0);
-    write(m, CLAUSES_LEFT, clauses);
-    write(m, PHASE, PRINTING);
+    let vars = read(m, Scalar::ClauseVars);
+    let clauses = read(m, Scalar::NumClauses);
+    write(m, Scalar::Cursor, 0);
+    write(m, Scalar::LitsLeft, 0);
+    write(m, Scalar::ClausesLeft, clauses);
+    set_phase(m, Phase::Printing);
     Told::Writes(put_header(vars, clauses, out))
 }
 
 // A file's clauses are added, all or none.
-pub fn read_in(m: &mut [u64], bytes: &[u8]) -> Told
-    requires { (Sized m.old) × (length bytes.now ≤ 1048576) }
-    ensures after { view m.new ≡ (on_read (view m.old) bytes.now).state }
-    ensures answer { told (on_read (view m.old) bytes.now).act ≡ result }
+pub fn read_in(m: &mut Memory, bytes: &[u8]) -> Told
+    requires { length bytes.now ≤ 1048576 }
+    ensures { Takes (on_read (view m.old) bytes.now) m.new result }
 {
-    let start = read(m, ARENA_LEN);
+    let start = read(m, Scalar::ArenaLen);
     match read_file(m, bytes, start) {
-        Outcome::Formula(counts) => take_clauses(m, counts),
-        Outcome::Wrong(fault) => tell_fault(m, fault),
+        Ok(counts) => take_clauses(m, counts),
+        Err(fault) => tell_fault(m, fault),
     }
 }
 
-// What is wrong in a file: the first number is shown now, the second and the refusal as it goes on.
-fn tell_fault(m: &mut [u64], fault: Fault) -> Told
-    requires { Sized m.old }
-    ensures after { view m.new ≡ (on_outcome (view m.old) (Wrong fault)).state }
-    ensures answer { told (on_outcome (view m.old) (Wrong fault)).act ≡ result }
+// A number is shown now; a second, and the end, as it goes on. The end is a refusal, or 0.
+fn tell(m: &mut Memory, first: u64, second: Option<u64>, ending: u64) -> Told
+    ensures { Takes (tells (view m.old) first second ending) m.new result }
 {
-    write(m, PENDING, fault.shown.saturating_sub(1));
-    write(m, PENDING_NUMBER, fault.second);
-    write(m, ENDING, fault.number);
-    write(m, PHASE, TELLING);
-    Told::Shows(fault.first)
+    write(m, Scalar::Pending, u64::from(second.is_some()));
+    write(m, Scalar::PendingNumber, second.unwrap_or(0));
+    write(m, Scalar::Ending, ending);
+    set_phase(m, Phase::Telling);
+    Told::Shows(first)
 }
 
-// The clauses and the arena's end with a file's clauses, if there is room for them.
-#[derive(Clone, Copy)]
-pub struct Room {
-    clauses: u64,
-    end: u64,
-}
-
-fn room_for_file(m: &[u64], counts: Counts) -> Option<Room>
-    requires { Sized m.now }
-    ensures { result ≡ pick (counts_fit (view m.now) counts) (Some (record { clauses = num_clauses (view m.now) + counts.clauses; end = arena_len (view m.now) + (counts.literals + counts.clauses) })) None }
+// What is wrong in a file.
+fn tell_fault(m: &mut Memory, fault: Fault) -> Told
+    ensures { Takes (on_outcome (view m.old) (Wrong (refusal_told fault))) m.new result }
 {
-    let clauses = read(m, NUM_CLAUSES);
-    let start = read(m, ARENA_LEN);
-    if counts.clauses > MAX_CLAUSES || clauses > MAX_CLAUSES - counts.clauses {
-        return None;
-    }
-    if counts.literals > MAX_LITERALS
-        || start.saturating_sub(clauses) > MAX_LITERALS - counts.literals
-    {
-        return None;
-    }
-    Some(Room {
-        clauses: clauses + counts.clauses,
-        end: start + (counts.literals + counts.clauses),
-    })
+    tell(m, fault.first(), fault.second(), fault.number())
 }
 
 // The clauses lie in the arena already; with the counts they are the formula's.
-fn take_clauses(m: &mut [u64], counts: Counts) -> Told
-    requires { Sized m.old }
-    ensures after { view m.new ≡ (on_outcome (view m.old) (Formula counts)).state }
-    ensures answer { told (on_outcome (view m.old) (Formula counts)).act ≡ result }
+fn take_clauses(m: &mut Memory, counts: Counts) -> Told
+    ensures { Takes (on_outcome (view m.old) (Formula counts)) m.new result }
 {
-    let Some(room) = room_for_file(m, counts) else {
-        return Told::No(7);
-    };
-    let vars = larger_of(read(m, NUM_VARS), counts.vars);
-    let clause_vars = larger_of(read(m, CLAUSE_VARS), counts.vars);
-    let verdict = only_no(read(m, VERDICT));
-    write(m, NUM_VARS, vars);
-    write(m, CLAUSE_VARS, clause_vars);
-    write(m, NUM_CLAUSES, room.clauses);
-    write(m, ARENA_LEN, room.end);
-    write(m, VERDICT, verdict);
-    write(m, PENDING, 1);
-    write(m, PENDING_NUMBER, room.clauses);
-    write(m, ENDING, 0);
-    write(m, PHASE, TELLING);
-    Told::Shows(clause_vars)
+    if !has_room(m, counts.clauses, counts.literals) {
+        return Refusal::NoRoom.into();
+    }
+    grow(m, counts);
+    let vars = read(m, Scalar::ClauseVars);
+    let clauses = read(m, Scalar::NumClauses);
+    tell(m, vars, Some(clauses), 0)
 }

@@ -1,99 +1,97 @@
-// What the machine does when it is told to go on: a turn of the search, or the next literal of the model.
-// Each function promises the state that the machine's definition of it has.
-ghost use Rattle.std.specs.Prelude.{◌≡◌, ◌≤◌, min, length};
+// What the machine does when it is told to go on, by the phase that it is in.
+// Each function promises the turn, or the state, that the machine's definition of it has.
+ghost use Rattle.std.specs.Prelude.{◌≡◌, min};
 ghost use Rattle.std.proofs.lemmas.List.Edits.{sets};
 ghost use Rattle.search.specs.Plain.{model_row};
-ghost use Rattle.solver.specs.State.{view, num_vars, with_model};
-ghost use Rattle.solver.specs.Machine.{on_next, searching, showing, showing_core, printing, telling, answered_no, answered_yes, with_turn};
-ghost use Rattle.solver.specs.Coded.{Sized, told, written_to};
+ghost use Rattle.solver.specs.State.{view, num_vars, with_model, with_phase};
+ghost use Rattle.solver.specs.Machine.{turn, on_next, searching, showing, showing_core, printing, telling, answered_no, answered_yes, with_turn};
+ghost use Rattle.solver.specs.Promise.{done};
+ghost use Rattle.solver.specs.Coded.{Takes, TakesAndWrites};
 
-use crate::Told;
 use crate::limits::*;
+use crate::phase::Phase;
+use crate::scalar::Scalar;
 use crate::tables::*;
+use crate::{Buffer, Told};
 use dimacs::write::{put_end, put_literal};
-use formula::table::get;
+use search::plain;
 use search::plain::{Finding, look, model_literal, some_marked};
 
-pub fn go_on(m: &mut [u64], out: &mut [u8]) -> Told
-    requires { (Sized m.old) × (128 ≤ length out.old) }
-    ensures after { view m.new ≡ (on_next (view m.old)).state }
-    ensures answer { told (on_next (view m.old)).act ≡ result }
-    ensures bytes { written_to (on_next (view m.old)).act out.old ≡ out.new }
+pub fn go_on(m: &mut Memory, out: &mut Buffer) -> Told
+    ensures { TakesAndWrites (on_next (view m.old)) m.new result out.old out.new }
 {
-    match read(m, PHASE) {
-        SEARCHING => search_on(m),
-        SHOWING => show_literal(m),
-        SHOWING_CORE => show_core(m),
-        PRINTING => print_on(m, out),
-        TELLING => tell_on(m),
-        _ => Told::Done,
+    match Phase::from(read(m, Scalar::Phase)) {
+        Phase::Searching => search_on(m),
+        Phase::Showing => show_literal(m),
+        Phase::ShowingCore => show_core(m),
+        Phase::Printing => print_on(m, out),
+        Phase::Telling => tell_on(m),
+        Phase::Resting => Told::Done,
     }
 }
 
-// The next piece of the clauses' text.
-fn print_on(m: &mut [u64], out: &mut [u8]) -> Told
-    requires { (Sized m.old) × (128 ≤ length out.old) }
-    ensures after { view m.new ≡ (printing (view m.old)).state }
-    ensures answer { told (printing (view m.old)).act ≡ result }
-    ensures bytes { written_to (printing (view m.old)).act out.old ≡ out.new }
+// A command is at its end.
+pub fn finish(m: &mut Memory) -> Told
+    ensures { Takes (turn (with_phase (view m.old) 0) done) m.new result }
 {
-    let clauses = read(m, CLAUSES_LEFT);
+    set_phase(m, Phase::Resting);
+    Told::Done
+}
+
+// The next piece of the clauses' text.
+fn print_on(m: &mut Memory, out: &mut Buffer) -> Told
+    ensures { TakesAndWrites (printing (view m.old)) m.new result out.old out.new }
+{
+    let clauses = read(m, Scalar::ClausesLeft);
     if clauses == 0 {
-        write(m, PHASE, RESTING);
-        return Told::Done;
+        return finish(m);
     }
-    let lits = read(m, LITS_LEFT);
-    let place = read(m, CURSOR).min(ARENA_SIZE);
-    let next = get(arena(m), place);
+    let lits = read(m, Scalar::LitsLeft);
+    let place = read(m, Scalar::Cursor).min(ARENA_SIZE as u64);
+    let next = get_in(m, Table::Arena, place);
     match lits {
         0 => {
-            write(m, LITS_LEFT, next.min(MAX_LITERALS) + 1);
-            write(m, CURSOR, place + 1);
+            write(m, Scalar::LitsLeft, next.min(MAX_LITERALS) + 1);
+            write(m, Scalar::Cursor, place + 1);
             Told::Writes(0)
         }
         1 => {
-            write(m, LITS_LEFT, 0);
-            write(m, CLAUSES_LEFT, clauses - 1);
+            write(m, Scalar::LitsLeft, 0);
+            write(m, Scalar::ClausesLeft, clauses - 1);
             Told::Writes(put_end(out))
         }
         _ => {
-            write(m, LITS_LEFT, lits - 1);
-            write(m, CURSOR, place + 1);
+            write(m, Scalar::LitsLeft, lits - 1);
+            write(m, Scalar::Cursor, place + 1);
             Told::Writes(put_literal(next, out))
         }
     }
 }
 
-fn show_literal(m: &mut [u64]) -> Told
-    requires { Sized m.old }
-    ensures after { view m.new ≡ (showing (view m.old)).state }
-    ensures answer { told (showing (view m.old)).act ≡ result }
+fn show_literal(m: &mut Memory) -> Told
+    ensures { Takes (showing (view m.old)) m.new result }
 {
-    let cursor = read(m, CURSOR);
-    if cursor >= read(m, NUM_VARS) {
-        write(m, PHASE, RESTING);
-        return Told::Done;
+    let cursor = read(m, Scalar::Cursor);
+    if cursor >= read(m, Scalar::NumVars) {
+        return finish(m);
     }
-    let lit = get(model(m), cursor);
-    write(m, CURSOR, cursor + 1);
+    let lit = get_in(m, Table::Model, cursor);
+    write(m, Scalar::Cursor, cursor + 1);
     Told::Shows(lit)
 }
 
 // The next assumption, if it is in the core.
-fn show_core(m: &mut [u64]) -> Told
-    requires { Sized m.old }
-    ensures after { view m.new ≡ (showing_core (view m.old)).state }
-    ensures answer { told (showing_core (view m.old)).act ≡ result }
+fn show_core(m: &mut Memory) -> Told
+    ensures { Takes (showing_core (view m.old)) m.new result }
 {
-    let place = read(m, CURSOR);
-    if place >= read(m, NUM_ASSUMPTIONS) {
-        write(m, PHASE, RESTING);
-        return Told::Done;
+    let place = read(m, Scalar::Cursor);
+    if place >= read(m, Scalar::NumAssumptions) {
+        return finish(m);
     }
-    let mark = get(core(m), place);
-    let lit = get(assumptions(m), place);
-    write(m, CURSOR, place + 1);
-    if mark == 1 {
+    let mark = get_in(m, Table::Core, place);
+    let lit = get_in(m, Table::Assumptions, place);
+    write(m, Scalar::Cursor, place + 1);
+    if mark == MARKED {
         Told::Shows(lit)
     } else {
         Told::Writes(0)
@@ -101,18 +99,16 @@ fn show_core(m: &mut [u64]) -> Told
 }
 
 // What came of a file: its second number, and the end.
-fn tell_on(m: &mut [u64]) -> Told
-    requires { Sized m.old }
-    ensures after { view m.new ≡ (telling (view m.old)).state }
-    ensures answer { told (telling (view m.old)).act ≡ result }
+fn tell_on(m: &mut Memory) -> Told
+    ensures { Takes (telling (view m.old)) m.new result }
 {
-    if read(m, PENDING) == 1 {
-        let number = read(m, PENDING_NUMBER);
-        write(m, PENDING, 0);
+    if read(m, Scalar::Pending) == 1 {
+        let number = read(m, Scalar::PendingNumber);
+        write(m, Scalar::Pending, 0);
         return Told::Shows(number);
     }
-    let ending = read(m, ENDING);
-    write(m, PHASE, RESTING);
+    let ending = read(m, Scalar::Ending);
+    set_phase(m, Phase::Resting);
     if ending == 0 {
         Told::Done
     } else {
@@ -121,17 +117,15 @@ fn tell_on(m: &mut [u64]) -> Told
 }
 
 // A turn of the search, and the answer if it is the last.
-fn search_on(m: &mut [u64]) -> Told
-    requires { Sized m.old }
-    ensures after { view m.new ≡ (searching (view m.old)).state }
-    ensures answer { told (searching (view m.old)).act ≡ result }
+fn search_on(m: &mut Memory) -> Told
+    ensures { Takes (searching (view m.old)) m.new result }
 {
     let finding = look(
-        arena(m),
-        read(m, NUM_CLAUSES),
+        table_in(m, Table::Arena),
+        read(m, Scalar::NumClauses),
         assumed_literals(m),
-        read(m, NUM_VARS),
-        work(m),
+        read(m, Scalar::NumVars),
+        table_in(m, Table::Work),
     );
     match finding {
         Finding::Exhausted => answer_no(m),
@@ -144,51 +138,46 @@ fn search_on(m: &mut [u64]) -> Told
 }
 
 // The values change, and an assumption that failed is marked for the core.
-fn take_turn(m: &mut [u64], finding: Finding)
-    requires { Sized m.old }
+#[tactic(auto, unfolding(search::specs::Plain::mark))]
+fn take_turn(m: &mut Memory, finding: Finding)
     ensures { view m.new ≡ with_turn (view m.old) finding }
 {
-    act_on_work(m, finding);
+    change(m, Table::Work, |work| plain::act(work, finding));
     if let Finding::Failed(place) = finding {
-        mark_core(m, place);
+        put_in(m, Table::Core, place, MARKED);
     }
 }
 
 // A no holds whatever is assumed if no assumption had a part in it.
-fn answer_no(m: &mut [u64]) -> Told
-    requires { Sized m.old }
-    ensures after { view m.new ≡ (answered_no (view m.old)).state }
-    ensures answer { told (answered_no (view m.old)).act ≡ result }
+fn answer_no(m: &mut Memory) -> Told
+    ensures { Takes (answered_no (view m.old)) m.new result }
 {
-    let verdict = if some_marked(core(m), assumed_literals(m)) {
+    let verdict = if some_marked(table_in(m, Table::Core), assumed_literals(m)) {
         NO
     } else {
         NEVER
     };
-    write(m, VERDICT, verdict);
-    write(m, PHASE, RESTING);
+    write(m, Scalar::Verdict, verdict);
+    set_phase(m, Phase::Resting);
     Told::Shows(0)
 }
 
-fn answer_yes(m: &mut [u64]) -> Told
-    requires { Sized m.old }
-    ensures after { view m.new ≡ (answered_yes (view m.old)).state }
-    ensures answer { told (answered_yes (view m.old)).act ≡ result }
+fn answer_yes(m: &mut Memory) -> Told
+    ensures { Takes (answered_yes (view m.old)) m.new result }
 {
     record_model(m);
-    write(m, VERDICT, YES);
-    write(m, PHASE, RESTING);
+    write(m, Scalar::Verdict, YES);
+    set_phase(m, Phase::Resting);
     Told::Shows(1)
 }
 
 // The values as literals, into the table that is told from.
-fn record_model(m: &mut [u64])
-    requires { Sized m.old }
+fn record_model(m: &mut Memory)
     ensures { view m.new ≡ with_model (view m.old) (sets (view m.old).model 0 (model_row (view m.old).work 0 (min (num_vars (view m.old)) 16384))) }
 {
-    let vars = read(m, NUM_VARS).min(MAX_VARS);
+    let vars = read(m, Scalar::NumVars).min(MAX_VARS);
     for var in 0..vars {
-        let lit = model_literal(work(m), var);
-        write_model(m, var, lit);
+        let lit = model_literal(table_in(m, Table::Work), var);
+        put_in(m, Table::Model, var, lit);
     }
 }

@@ -1,12 +1,20 @@
-// The solver as a machine: what its commands answer, and the functions whose contracts promise it.
+// The solver as a machine, from a cleared memory step by step; and the reluctant doubling sequence.
+// The contracts promise what its commands answer, and that these answers are true.
 #![tactic(auto)]
 
-ghost use Rattle.std.specs.Prelude.{◌≡◌, ◌≤◌, length, replicate};
+ghost use Rattle.std.specs.Prelude.{◌≡◌, ◌≤◌, ◌&&◌, length, replicate, nat_le};
 ghost use Rattle.solver.specs.Known.{all_but_proofs};
 ghost use Rattle.solver.specs.Promise.{Whole};
 ghost use Rattle.solver.specs.PrintBack.{PrintsBack};
-ghost use Rattle.solver.specs.Entry.{own, TermSays, term_fits, smaller, term, StepSays, step_fits};
+ghost use Rattle.solver.specs.Entry.{own, TermSays, term_fits, smaller, term, StepSays, step_fits, event_of};
+ghost use Rattle.solver.specs.State.{view};
+ghost use Rattle.solver.specs.Machine.{on_event};
+ghost use Rattle.solver.specs.Coded.{TakesAndWrites};
+ghost use Rattle.solver.specs.Kind.{number_of};
 
+use crate::kind::Kind;
+use crate::refusal::Refusal;
+use crate::tables::Memory;
 use formula::table::clear;
 
 pub mod collected;
@@ -14,7 +22,10 @@ mod commands;
 mod going;
 pub mod kind;
 mod limits;
+mod phase;
+mod refusal;
 pub mod run;
+mod scalar;
 pub mod statements;
 mod tables;
 
@@ -35,10 +46,16 @@ pub enum Told {
     No(u64),
 }
 
+// The length of a machine's memory.
+pub const MEMORY_LEN: usize = 524288;
+
 // The longest row of numbers or bytes, and the least room for bytes, with which a step is taken.
-const MAX_LEN: usize = 1048576;
+pub const MAX_LEN: usize = 1048576;
 
 const MIN_OUT: usize = 128;
+
+// Room for the bytes of one step.
+type Buffer = [u8; MIN_OUT];
 
 // The number of the last term that is told.
 const LAST_TERM: u64 = 1 << 20;
@@ -47,15 +64,16 @@ const LAST_TERM: u64 = 1 << 20;
 pub fn smaller_of(a: u64, b: u64) -> u64
     ensures { result ≡ smaller a b }
 {
-    if a < b { a } else { b }
+    a.min(b)
 }
 
 // The term of that number of the reluctant doubling sequence, from 0.
+#[tactic(auto, unfolding(crate::specs::Entry::TermSays))]
 pub fn luby(n: u64) -> Reply
     ensures { TermSays n (term_fits n) result }
 {
     if n > LAST_TERM {
-        return Reply::Refused(1);
+        return Reply::Refused(Refusal::PastTheLast.into());
     }
     Reply::Term(term_of(n))
 }
@@ -97,32 +115,48 @@ pub fn begin(memory: &mut [u64])
     promises();
 }
 
-// Whether memory, kind, row, bytes and room for bytes are such as a step can be taken with.
-fn fits(memory: &[u64], kind: u64, row: &[u64], bytes: &[u8], out: &[u8]) -> bool
-    ensures { result ≡ step_fits memory.now kind row.now bytes.now out.now }
+// Whether a row of numbers and one of bytes are short enough for a step.
+fn are_short(row: &[u64], bytes: &[u8]) -> bool
+    ensures { result ≡ (nat_le (length row.now) 1048576 && nat_le (length bytes.now) 1048576) }
 {
-    memory.len() == tables::SIZE
-        && (kind <= kind::GO_ON
-            && ((row.len() <= MAX_LEN && bytes.len() <= MAX_LEN) && MIN_OUT <= out.len()))
+    row.len() <= MAX_LEN && bytes.len() <= MAX_LEN
+}
+
+// One step of a memory of the machine's length.
+#[tactic(auto, unfolding(crate::specs::Machine::on_event, crate::specs::Machine::on_command, crate::specs::Entry::event_of, formula::specs::Logic::none_of))]
+fn take(m: &mut Memory, kind: Kind, row: &[u64], bytes: &[u8], out: &mut Buffer) -> Told
+    requires { length bytes.now ≤ 1048576 }
+    ensures { TakesAndWrites (on_event (view m.old) (event_of (number_of kind) row.now bytes.now)) m.new result out.old out.new }
+{
+    match kind {
+        Kind::NewVar => commands::new_var(m),
+        Kind::Add => commands::add(m, row),
+        Kind::Assume => commands::assume(m, row),
+        Kind::Solve => commands::solve(m),
+        Kind::Model => commands::model(m),
+        Kind::Core => commands::core(m),
+        Kind::Read => commands::read_in(m, bytes),
+        Kind::Print => commands::print(m, out),
+        Kind::Prove => Refusal::NoProofs.into(),
+        Kind::GoOn => going::go_on(m, out),
+    }
 }
 
 // One step of the machine: a command, or going on with one. What can't be taken is answered by number 0.
 pub fn step(memory: &mut [u64], kind: u64, row: &[u64], bytes: &[u8], out: &mut [u8]) -> Told
     ensures { StepSays memory.old kind row.now bytes.now out.old (step_fits memory.old kind row.now bytes.now out.old) result memory.new out.new }
 {
-    if !fits(memory, kind, row, bytes, out) {
-        return Told::No(0);
+    if !are_short(row, bytes) {
+        return Refusal::NoStep.into();
     }
-    match kind {
-        kind::NEW_VAR => commands::new_var(memory),
-        kind::ADD => commands::add(memory, row),
-        kind::ASSUME => commands::assume(memory, row),
-        kind::SOLVE => commands::solve(memory),
-        kind::MODEL => commands::model(memory),
-        kind::CORE => commands::core(memory),
-        kind::READ => commands::read_in(memory, bytes),
-        kind::PRINT => commands::print(memory, out),
-        kind::GO_ON => going::go_on(memory, out),
-        _ => Told::No(2),
-    }
+    let Ok(kind) = Kind::try_from(kind) else {
+        return Refusal::NoStep.into();
+    };
+    let Some(m) = memory.as_mut_array() else {
+        return Refusal::NoStep.into();
+    };
+    let Some(out) = out.first_chunk_mut() else {
+        return Refusal::NoStep.into();
+    };
+    take(m, kind, row, bytes, out)
 }

@@ -8,5 +8,6 @@ pub const MAX_ROW: usize = 1024;
 pub const MAX_CLAUSES: u64 = 16384;
 
 pub const MAX_LITERALS: u64 = 65536;
+
 // Refusals have numbers up to this.
 pub const LAST_REFUSAL: u64 = 999;

@@ -1,10 +1,11 @@
 // A command driven to its end, with a budget of steps, and a sink for what it shows and writes.
 // `run` promises that memory, sink and end are those of the machine's run.
-ghost use Rattle.std.specs.Prelude.{ℕ, T, List, [], ◌∷◌, ◌++◌};
+ghost use Rattle.std.specs.Prelude.{◌≡◌, ℕ, T, List, [], ◌∷◌, ◌++◌};
 ghost use Rattle.solver.specs.Running.{Handed, RunSays, run_fits};
 
-use crate::kind::GO_ON;
-use crate::{Told, fits, step};
+use crate::kind::Kind;
+use crate::refusal::Refusal;
+use crate::{Buffer, MEMORY_LEN, MIN_OUT, Told, are_short, step};
 
 // How a run ended.
 #[derive(Clone, Copy)]
@@ -39,19 +40,24 @@ pub trait Output {
 fn hand_on<O: Output>(told: Told, buffer: &[u8], out: &mut O) -> Option<End>
     ensures { Handed (λ ss ws. O.Output.told out.old ss ws out.new) told buffer.now result }
 {
-    match told {
-        Told::Shows(n) => { if out.show(n) { None } else { Some(End::Lost) } }
+    let kept = match told {
+        Told::Shows(n) => out.show(n),
         Told::Writes(n) => {
             let len = (n as usize).min(buffer.len());
-            if out.write(&buffer[0..len]) {
-                None
-            } else {
-                Some(End::Lost)
-            }
+            out.write(&buffer[..len])
         }
-        Told::Done => Some(End::Finished),
-        Told::No(k) => Some(End::Refused(k)),
-    }
+        Told::Done => return Some(End::Finished),
+        Told::No(k) => return Some(End::Refused(k)),
+    };
+    (!kept).then_some(End::Lost)
+}
+
+// Whether a command can be driven in this memory, with a buffer that has room.
+#[tactic(auto, using(crate::proofs::Drives::run_fits_is, crate::proofs::KindNumbers::kind_known))]
+fn fits(memory: &[u64], kind: u64, row: &[u64], bytes: &[u8]) -> bool
+    ensures { result ≡ run_fits memory.now kind row.now bytes.now }
+{
+    memory.len() == MEMORY_LEN && Kind::try_from(kind).is_ok() && are_short(row, bytes)
 }
 
 pub fn run<O: Output>(
@@ -64,17 +70,17 @@ pub fn run<O: Output>(
 ) -> End
     ensures { RunSays (λ ss ws. O.Output.told out.old ss ws out.new) memory.old kind row.now bytes.now budget (run_fits memory.old kind row.now bytes.now) result memory.new }
 {
-    let mut buffer = [0u8; 128];
-    if !fits(memory, kind, row, bytes, &buffer) {
-        return End::Refused(0);
+    let mut buffer: Buffer = [0; MIN_OUT];
+    if !fits(memory, kind, row, bytes) {
+        return End::Refused(Refusal::NoStep.into());
     }
     let mut next = kind;
-    for _i in 0..budget {
+    for _ in 0..budget {
         let told = step(memory, next, row, bytes, &mut buffer);
         if let Some(end) = hand_on(told, &buffer, out) {
             return end;
         }
-        next = GO_ON;
+        next = u64::from(Kind::GoOn);
     }
     End::Unfinished
 }

@@ -1,204 +1,135 @@
 // The memory map: where each table lies, how it is read and how it is written.
 // Each write promises the view of the memory with that one table changed.
-ghost use Rattle.std.specs.Prelude.{◌≡◌, slice_set};
-ghost use Rattle.std.proofs.lemmas.List.Edits.{sets};
-ghost use Rattle.formula.specs.Arena.{clause_row};
+ghost use Rattle.std.specs.Prelude.{◌≡◌, List, ℕ, slice_index, slice_set};
+ghost use Rattle.std.specs.Fn.{FnOnceReturnsAtMut};
 ghost use Rattle.dimacs.specs.Text.{file_read};
-ghost use Rattle.dimacs.specs.Scan.{table_after, outcome_of};
-ghost use Rattle.solver.specs.State.{view, zeros, scalar, with_scalar, with_assumptions, with_core, with_model, with_arena, with_work, assumed};
-ghost use Rattle.search.specs.Plain.{fresh, act};
-ghost use Rattle.solver.specs.Coded.{Sized};
+ghost use Rattle.dimacs.specs.Scan.{table_after, outcome_of, outcome_told};
+ghost use Rattle.solver.specs.State.{view, zeros, scalar, with_scalar, with_phase, with_core, with_arena, assumed};
+ghost use Rattle.solver.specs.Phases.{number_of_phase};
+ghost use Rattle.solver.specs.Scalars.{place_of};
+ghost use Rattle.solver.specs.Tables.{table_of, with_table, start_of, end_of};
 
-use dimacs::read::{Outcome, read_formula};
-use formula::clause::store;
-use formula::table::{clear, get, part, put, write_row};
-use search::plain;
-use search::plain::Finding;
+use crate::MEMORY_LEN;
+use crate::phase::Phase;
+use crate::scalar::Scalar;
+use dimacs::read::{Counts, Fault, read_formula};
+use formula::table::{clear, get, part, put};
+use std::ops::Range;
 
-// The formula's half.
-const SCALARS: usize = 0;
+pub type Memory = [u64; MEMORY_LEN];
 
-const ASSUMPTIONS: usize = 256;
+// Where the clauses lie.
+const ARENA_START: usize = 18688;
 
-const CORE: usize = 1280;
+pub const ARENA_SIZE: usize = 81920;
 
-const MODEL: usize = 2304;
+const ARENA_END: usize = ARENA_START + ARENA_SIZE;
 
-const ARENA: usize = 18688;
-// The search's half.
-const WORK: usize = 100608;
-
-pub const SIZE: usize = 524288;
-
-pub const ARENA_SIZE: u64 = 81920;
-
-// The scalars, by their place.
-pub const NUM_VARS: u64 = 0;
-
-pub const NUM_CLAUSES: u64 = 1;
-
-pub const ARENA_LEN: u64 = 2;
-
-pub const NUM_ASSUMPTIONS: u64 = 3;
-
-pub const VERDICT: u64 = 4;
-
-pub const PHASE: u64 = 5;
-
-pub const CURSOR: u64 = 6;
-
-pub const CLAUSE_VARS: u64 = 7;
-
-pub const LITS_LEFT: u64 = 8;
-
-pub const CLAUSES_LEFT: u64 = 9;
-
-pub const PENDING: u64 = 10;
-
-pub const PENDING_NUMBER: u64 = 11;
-
-pub const ENDING: u64 = 12;
-
-// The verdict.
+// The verdict, a number: the memory may hold any there, and an unknown one is kept.
 pub const UNKNOWN: u64 = 0;
 
 pub const YES: u64 = 1;
 
 pub const NO: u64 = 2;
+
 // No, whatever is assumed.
 pub const NEVER: u64 = 3;
 
-// The phase: what the machine is at.
-pub const RESTING: u64 = 0;
+// The search's mark on an assumption of the core.
+pub const MARKED: u64 = 1;
 
-pub const SEARCHING: u64 = 1;
-
-pub const SHOWING: u64 = 2;
-
-pub const SHOWING_CORE: u64 = 3;
-
-pub const PRINTING: u64 = 4;
-
-pub const TELLING: u64 = 5;
-
-fn scalars(m: &[u64]) -> &[u64]
-    requires { Sized m.now }
-    ensures { result.now ≡ (view m.now).scalars }
-{
-    &m[SCALARS..ASSUMPTIONS]
+#[derive(Clone, Copy)]
+pub enum Table {
+    Scalars,
+    Assumptions,
+    Core,
+    Model,
+    Arena,
+    Work,
 }
 
-pub fn read(m: &[u64], i: u64) -> u64
-    requires { Sized m.now }
-    ensures { result ≡ scalar (view m.now) i }
-{
-    get(scalars(m), i)
+impl Table {
+    // Where it lies: the formula's half first, and then the search's.
+    fn range(self) -> Range<usize>
+        ensures { result ≡ record { start = start_of self; end = end_of self } }
+    {
+        match self {
+            Table::Scalars => 0..256,
+            Table::Assumptions => 256..1280,
+            Table::Core => 1280..2304,
+            Table::Model => 2304..ARENA_START,
+            Table::Arena => ARENA_START..ARENA_END,
+            Table::Work => ARENA_END..MEMORY_LEN,
+        }
+    }
 }
 
-pub fn write(m: &mut [u64], i: u64, value: u64)
-    requires { Sized m.old }
-    ensures { view m.new ≡ with_scalar (view m.old) i value }
+pub fn table_in(m: &Memory, t: Table) -> &[u64]
+    ensures { result.now ≡ table_of (view m.now) t }
 {
-    put(&mut m[SCALARS..ASSUMPTIONS], i, value)
+    &m[t.range()]
 }
 
-pub fn assumptions(m: &[u64]) -> &[u64]
-    requires { Sized m.now }
-    ensures { result.now ≡ (view m.now).assumptions }
+pub fn get_in(m: &Memory, t: Table, i: u64) -> u64
+    ensures { result ≡ slice_index (table_of (view m.now) t) i }
 {
-    &m[ASSUMPTIONS..CORE]
+    get(table_in(m, t), i)
+}
+
+// A table changed as `f` changes it; the others stay.
+pub fn change<R, F: FnOnce(&mut [u64]) -> R>(m: &mut Memory, t: Table, f: F) -> R
+    requires { F.IsAlwaysCallable f }
+    ensures { (row : List ℕ) × FnOnceReturnsAtMut F.FnOnce f (table_of (view m.old) t) result row × (view m.new ≡ with_table (view m.old) t row) }
+{
+    f(&mut m[t.range()])
+}
+
+// A number written into a table.
+pub fn put_in(m: &mut Memory, t: Table, i: u64, value: u64)
+    ensures { view m.new ≡ with_table (view m.old) t (slice_set (table_of (view m.old) t) i value) }
+{
+    change(m, t, |row| put(row, i, value))
+}
+
+pub fn read(m: &Memory, s: Scalar) -> u64
+    ensures { result ≡ scalar (view m.now) (place_of s) }
+{
+    get_in(m, Table::Scalars, s.place())
+}
+
+pub fn write(m: &mut Memory, s: Scalar, value: u64)
+    ensures { view m.new ≡ with_scalar (view m.old) (place_of s) value }
+{
+    put_in(m, Table::Scalars, s.place(), value)
+}
+
+pub fn set_phase(m: &mut Memory, phase: Phase)
+    ensures { view m.new ≡ with_phase (view m.old) (number_of_phase phase) }
+{
+    write(m, Scalar::Phase, phase.into())
 }
 
 // The literals that are assumed.
-pub fn assumed_literals(m: &[u64]) -> &[u64]
-    requires { Sized m.now }
+pub fn assumed_literals(m: &Memory) -> &[u64]
     ensures { result.now ≡ assumed (view m.now) }
 {
-    part(assumptions(m), 0, read(m, NUM_ASSUMPTIONS))
+    part(
+        table_in(m, Table::Assumptions),
+        0,
+        read(m, Scalar::NumAssumptions),
+    )
 }
 
-pub fn write_assumptions(m: &mut [u64], row: &[u64])
-    requires { Sized m.old }
-    ensures { view m.new ≡ with_assumptions (view m.old) (sets (view m.old).assumptions 0 row.now) }
-{
-    write_row(&mut m[ASSUMPTIONS..CORE], 0, row)
-}
-
-pub fn core(m: &[u64]) -> &[u64]
-    requires { Sized m.now }
-    ensures { result.now ≡ (view m.now).core }
-{
-    &m[CORE..MODEL]
-}
-
-pub fn clear_core(m: &mut [u64])
-    requires { Sized m.old }
+pub fn clear_core(m: &mut Memory)
     ensures { view m.new ≡ with_core (view m.old) (zeros 1024) }
 {
-    clear(&mut m[CORE..MODEL])
-}
-
-pub fn mark_core(m: &mut [u64], place: u64)
-    requires { Sized m.old }
-    ensures { view m.new ≡ with_core (view m.old) (slice_set (view m.old).core place 1) }
-{
-    put(&mut m[CORE..MODEL], place, 1)
-}
-
-pub fn model(m: &[u64]) -> &[u64]
-    requires { Sized m.now }
-    ensures { result.now ≡ (view m.now).model }
-{
-    &m[MODEL..ARENA]
-}
-
-pub fn write_model(m: &mut [u64], var: u64, lit: u64)
-    requires { Sized m.old }
-    ensures { view m.new ≡ with_model (view m.old) (slice_set (view m.old).model var lit) }
-{
-    put(&mut m[MODEL..ARENA], var, lit)
-}
-
-pub fn arena(m: &[u64]) -> &[u64]
-    requires { Sized m.now }
-    ensures { result.now ≡ (view m.now).arena }
-{
-    &m[ARENA..WORK]
-}
-
-pub fn store_clause(m: &mut [u64], start: u64, clause: &[u64])
-    requires { Sized m.old }
-    ensures { view m.new ≡ with_arena (view m.old) (sets (view m.old).arena start (clause_row clause.now)) }
-{
-    store(&mut m[ARENA..WORK], start, clause)
-}
-
-pub fn work(m: &[u64]) -> &[u64]
-    requires { Sized m.now }
-    ensures { result.now ≡ (view m.now).work }
-{
-    &m[WORK..SIZE]
-}
-
-pub fn start_search(m: &mut [u64])
-    requires { Sized m.old }
-    ensures { view m.new ≡ with_work (view m.old) (fresh (view m.old).work) }
-{
-    plain::start(&mut m[WORK..SIZE])
-}
-
-pub fn act_on_work(m: &mut [u64], finding: Finding)
-    requires { Sized m.old }
-    ensures { view m.new ≡ with_work (view m.old) (act (view m.old).work finding) }
-{
-    plain::act(&mut m[WORK..SIZE], finding)
+    change(m, Table::Core, clear)
 }
 
 // A file's clauses, written into the arena behind the others.
-pub fn read_file(m: &mut [u64], bytes: &[u8], start: u64) -> Outcome
-    requires { Sized m.old }
+pub fn read_file(m: &mut Memory, bytes: &[u8], start: u64) -> Result<Counts, Fault>
     ensures after { view m.new ≡ with_arena (view m.old) (table_after (view m.old).arena start bytes.now) }
-    ensures answer { result ≡ outcome_of (file_read bytes.now) }
+    ensures answer { outcome_told result ≡ outcome_of (file_read bytes.now) }
 {
-    read_formula(bytes, &mut m[ARENA..WORK], start)
+    change(m, Table::Arena, |arena| read_formula(bytes, arena, start))
 }

@@ -3,7 +3,7 @@
 ghost use Rattle.std.specs.Prelude.{◌≡◌, ◌+◌, ◌-◌, ◌*◌, ◌/◌, ◌%◌, ◌^◌, ◌<◌, ◌≤◌, [], ◌++◌, if◌then◌else◌, Some, codes, decimal, nat_eq};
 ghost use Rattle.std.specs.Option.{SomeIff};
 
-use formula::literal::{is_negated, variable};
+use formula::literal::{is_negated, literal, variable};
 use std::fmt;
 
 // The machine's number of a literal, if it fits.
@@ -15,18 +15,7 @@ pub fn number_of(name: u64, negated: bool) -> Option<u64>
     if from_zero > u64::MAX / 2 {
         return None;
     }
-    if negated {
-        Some(2 * from_zero + 1)
-    } else {
-        Some(2 * from_zero)
-    }
-}
-
-// The variable of a literal, as text has it.
-pub fn name_of(lit: u64) -> u64
-    ensures { result ≡ lit / 2 + 1 }
-{
-    variable(lit) + 1
+    Some(literal(from_zero, negated))
 }
 
 // A literal of the machine, shown as text has it.
@@ -37,7 +26,7 @@ impl fmt::Display for Literal {
     ghost output = { λ l. Some ((if nat_eq (l.0 % 2) 1 then codes "-" else []) ++ decimal (l.0 / 2 + 1)) };
 
     fn fmt<W: fmt::Write>(&self, f: &mut fmt::Formatter<W>) -> fmt::Result {
-        let name = name_of(self.0);
+        let name = variable(self.0) + 1;
         if is_negated(self.0) {
             write!(f, "-{name}")
         } else {

@@ -4,11 +4,9 @@ ghost use Rattle.std.specs.Prelude.{◌≡◌, IfOk};
 ghost use Rattle.solver.specs.Entry.{own};
 ghost use Rattle.solver.specs.Running.{RunSays, run_fits};
 
+use solver::MEMORY_LEN;
 use solver::run::{End, Output, run};
 use std::alloc::{AllocError, Global};
-
-// The length of the solver's memory.
-const MEMORY: usize = 524288;
 
 #[derive(Drop)]
 pub struct Machine {
@@ -19,7 +17,7 @@ impl Machine {
     pub fn new(heap: Global) -> Result<Machine, AllocError>
         ensures { IfOk result (λ m. m.memory.items ≡ own.start) }
     {
-        let mut memory = vec![in heap; 0; MEMORY]?;
+        let mut memory = vec![in heap; 0; MEMORY_LEN]?;
         solver::begin(memory.as_mut_slice());
         Ok(Machine { memory })
     }

@@ -4,10 +4,12 @@
 
 use crate::options::{Misuse, Task, task_of};
 use crate::solving::Trouble;
-use std::alloc::AllocFailed;
+use std::alloc::AllocError;
 use std::process::ExitCode;
-use std::{env, fmt, io};
+use std::{env, io};
+use thiserror::Error;
 
+mod file;
 mod literal;
 mod machine;
 mod options;
@@ -19,60 +21,21 @@ mod solving;
 mod usage;
 
 // Why the program ends with status 1.
-#[derive(Drop)]
+#[derive(Debug, Drop, Error)]
 enum Failure {
-    Misuse(Misuse),
-    Trouble(Trouble),
-    Io(io::Error),
-    NoMemory,
-}
-
-impl From<io::Error> for Failure {
-    fn from(error: io::Error) -> Failure {
-        Failure::Io(error)
-    }
-}
-
-impl<T: Drop> From<AllocFailed<T>> for Failure {
-    fn from(_refused: AllocFailed<T>) -> Failure {
-        Failure::NoMemory
-    }
-}
-
-impl From<Misuse> for Failure {
-    fn from(misuse: Misuse) -> Failure {
-        Failure::Misuse(misuse)
-    }
-}
-
-impl From<Trouble> for Failure {
-    fn from(trouble: Trouble) -> Failure {
-        Failure::Trouble(trouble)
-    }
-}
-
-impl fmt::Display for Failure {
-    fn fmt<W: fmt::Write>(&self, f: &mut fmt::Formatter<W>) -> fmt::Result {
-        match self {
-            Failure::Misuse(misuse) => write!(f, "{misuse}"),
-            Failure::Trouble(trouble) => write!(f, "{trouble}"),
-            Failure::Io(error) => write!(f, "{error}"),
-            Failure::NoMemory => f.write_str("there is no memory for it"),
-        }
-    }
-}
-
-// The words behind the program's name.
-fn words(rt: &HostRuntime) -> Result<Vec<String>, Failure> {
-    let mut all = Vec::new(rt.alloc());
-    for word in env::args(rt)?.skip(1) {
-        all.push(word)?;
-    }
-    Ok(all)
+    #[error(transparent)]
+    Misuse(#[from] Misuse),
+    #[error(transparent)]
+    Trouble(#[from] Trouble),
+    #[error(transparent)]
+    Io(#[from] io::Error),
+    #[error("there is no memory for it")]
+    NoMemory(#[from(alloc)] AllocError),
 }
 
 fn run(rt: &HostRuntime) -> Result<(), Failure> {
-    let words = words(rt)?;
+    // The words behind the program's name.
+    let words: Vec<String> = env::args(rt)?.skip(1).collect(rt.alloc())?;
     match task_of(rt.alloc(), words.as_slice())? {
         Task::Usage => rt.print(usage::TEXT)?,
         Task::Version => rt.println(usage::VERSION)?,

@@ -2,7 +2,7 @@
 // Promised: what is named is taken as it is, and nothing is passed over.
 use crate::request::{Mistake, parse_literals};
 use std::alloc::{AllocError, Global};
-use std::fmt;
+use thiserror::Error;
 
 #[derive(Drop)]
 pub enum Task {
@@ -22,42 +22,23 @@ pub struct Options {
 }
 
 // Why the words can't be taken.
-#[derive(Drop)]
+#[derive(Debug, Drop, Error)]
 pub enum Misuse {
+    #[error("unknown option {0:?}; varisat --help shows those there are")]
     UnknownOption(String),
     // An option whose word is missing.
-    Missing(String),
+    #[error("{0} wants a word behind it; see varisat --help")]
+    Missing(&'static str),
     // Not literals.
-    Assumptions(Mistake),
+    #[error("--assume: {0}")]
+    Assumptions(#[from] Mistake),
     // A word more than is wanted.
+    #[error("{0:?} is one word too many; see varisat --help")]
     Extra(String),
+    #[error("the name of a file is missing; see varisat --help")]
     NoFile,
-    NoMemory,
-}
-
-impl From<AllocError> for Misuse {
-    fn from(_error: AllocError) -> Misuse {
-        Misuse::NoMemory
-    }
-}
-
-impl fmt::Display for Misuse {
-    fn fmt<W: fmt::Write>(&self, f: &mut fmt::Formatter<W>) -> fmt::Result {
-        match self {
-            Misuse::UnknownOption(option) => write!(
-                f,
-                "unknown option {option:?}; varisat --help shows those there are"
-            ),
-            Misuse::Missing(option) => write!(
-                f,
-                "{option} wants a word behind it; see varisat --help"
-            ),
-            Misuse::Assumptions(mistake) => write!(f, "--assume: {mistake}"),
-            Misuse::Extra(word) => write!(f, "{word:?} is one word too many; see varisat --help"),
-            Misuse::NoFile => f.write_str("the name of a file is missing; see varisat --help"),
-            Misuse::NoMemory => f.write_str("there is no memory for it"),
-        }
-    }
+    #[error("there is no memory for it")]
+    NoMemory(#[from(alloc)] AllocError),
 }
 
 // The task of the words behind the program's name.
@@ -79,23 +60,18 @@ pub fn task_of(heap: Global, words: &[String]) -> Result<Task, Misuse> {
 
 fn options_of(heap: Global, words: &[String]) -> Result<Options, Misuse> {
     let mut file = None;
-    let mut options = Options {
-        file: String::new(heap),
-        assumed: Vec::new(heap),
-        model: true,
-        stats: false,
-    };
-    let mut assume_next = false;
-    for word in words {
-        if assume_next {
-            options.assumed = assumptions_of(heap, word.as_str())?;
-            assume_next = false;
-            continue;
-        }
+    let mut assumed = Vec::new(heap);
+    let mut model = true;
+    let mut stats = false;
+    let mut words = words.iter();
+    while let Some(word) = words.next() {
         match word.as_str() {
-            "--assume" => assume_next = true,
-            "--no-model" => options.model = false,
-            "--stats" => options.stats = true,
+            "--assume" => {
+                let text = words.next().ok_or(Misuse::Missing("--assume"))?;
+                assumed = parse_literals(heap, text.as_str())?;
+            }
+            "--no-model" => model = false,
+            "--stats" => stats = true,
             name if name.starts_with('-') && name != "-" => return Err(Misuse::UnknownOption(
                 word.clone()?,
             )),
@@ -103,19 +79,11 @@ fn options_of(heap: Global, words: &[String]) -> Result<Options, Misuse> {
             _ => file = Some(word.clone()?),
         }
     }
-    if assume_next {
-        return Err(Misuse::Missing(String::from_str(heap, "--assume")?));
-    }
-    let Some(name) = file else {
-        return Err(Misuse::NoFile);
-    };
-    options.file = name;
-    Ok(options)
-}
-
-fn assumptions_of(heap: Global, text: &str) -> Result<Vec<u64>, Misuse> {
-    match parse_literals(heap, text) {
-        Ok(row) => Ok(row),
-        Err(mistake) => Err(Misuse::Assumptions(mistake)),
-    }
+    let file = file.ok_or(Misuse::NoFile)?;
+    Ok(Options {
+        file,
+        assumed,
+        model,
+        stats,
+    })
 }

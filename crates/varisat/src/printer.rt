@@ -1,5 +1,7 @@
-// The sink that prints what a command shows and writes, as a part of the answer to a line.
+// What is printed on standard output in a session, and the sink that prints what a command shows and writes.
 // No contract can speak of what is printed, so `told` says nothing here; `run` is proved for every sink, this one too.
+ghost use Rattle.std.specs.Prelude.{◌≡◌};
+
 use crate::literal::Literal;
 use solver::run::Output;
 use std::alloc::Global;
@@ -24,20 +26,23 @@ pub enum Style {
 #[derive(Drop)]
 pub struct Printer {
     out: BufWriter<Stdout>,
-    style: Style,
 }
 
 impl Printer {
     pub fn new(alloc: Global, out: Stdout) -> io::Result<Printer> {
         Ok(Printer {
             out: BufWriter::new(alloc, out)?,
-            style: Style::Done,
         })
     }
 
-    // From here on, answers of this style.
-    pub fn begin(&mut self, style: Style) {
-        self.style = style;
+    // The sink of an answer of this style, which is then to be ended.
+    pub fn sink(&mut self, style: Style) -> Sink<'_>
+        ensures { result.style ≡ style }
+    {
+        Sink {
+            out: &mut self.out,
+            style,
+        }
     }
 
     // A line of its own, printed at once.
@@ -45,9 +50,17 @@ impl Printer {
         self.out.writeln(text)?;
         self.out.flush()
     }
+}
 
-    // The end of an answer. Who asked may wait for it, so all of it is printed now.
-    pub fn end(&mut self) -> io::Result<()> {
+#[derive(Drop)]
+pub struct Sink<'a> {
+    out: &'a mut BufWriter<Stdout>,
+    style: Style,
+}
+
+impl Sink<'_> {
+    // The end of the answer. Who asked may wait for it, so all of it is printed now.
+    pub fn end(self) -> io::Result<()> {
         match self.style {
             Style::Done => self.out.write_all(b"ok\n")?,
             Style::Number | Style::Variable => self.out.write_all(b"\n")?,
@@ -73,7 +86,7 @@ impl Printer {
     }
 }
 
-impl Output for Printer {
+impl Output for Sink<'_> {
     ghost told = { λ _ _ _ _. Unit {0} };
 
     ghost nothing = { λ _. tt };

@@ -5,21 +5,35 @@ ghost use Rattle.varisat.specs.Refusals.{number_of, ShownWith};
 
 use formula::table::get;
 use std::fmt;
+use thiserror::Error;
 
-#[derive(Clone, Copy)]
+// Shown, it is the reason alone, without the line.
+#[derive(Clone, Copy, Debug, Error)]
 pub enum Refusal {
+    #[error("this command isn't known yet")]
     NotKnownYet,
+    #[error("the last solving didn't end so: no model, or no core, to tell")]
     NotSolvedSo,
+    #[error("a literal is above 32767, or there are more than 1024")]
     Literals,
+    #[error("there would be more than 16384 variables or clauses, or 65536 literals")]
     Full,
+    #[error("not while a proof is written, or too late for that")]
     Proof,
+    #[error("{sign} can't stand there", sign = Sign(*.byte))]
     Byte { line: u64, byte: u64 },
+    #[error("a literal, or the header's variables, above 16384")]
     Large { line: u64 },
+    #[error("the header isn't \"p cnf\" and two numbers")]
     Header { line: u64 },
+    #[error("the last clause isn't ended by 0")]
     NotEnded { line: u64 },
     // How many there are, and how many the header says.
+    #[error("there are {found} variables, and the header says {said}")]
     Variables { found: u64, said: u64 },
+    #[error("there are {found} clauses, and the header says {said}")]
     Clauses { found: u64, said: u64 },
+    #[error("this is no command of the machine")]
     Other(u64),
 }
 
@@ -55,11 +69,13 @@ impl Refusal {
             _ => Refusal::Other(number),
         }
     }
+}
 
-    pub fn number(&self) -> u64
-        ensures { result ≡ number_of self.now }
-    {
-        match self {
+impl From<Refusal> for u64 {
+    ghost from_gives = { λ refusal number. number ≡ number_of refusal };
+
+    fn from(refusal: Refusal) -> u64 {
+        match refusal {
             Refusal::NotKnownYet => 2,
             Refusal::NotSolvedSo => 4,
             Refusal::Literals => 6,
@@ -71,106 +87,70 @@ impl Refusal {
             Refusal::NotEnded { .. } => 23,
             Refusal::Variables { .. } => 24,
             Refusal::Clauses { .. } => 25,
-            Refusal::Other(number) => *number,
+            Refusal::Other(number) => number,
         }
     }
 }
 
-impl fmt::Display for Refusal {
+// The answer to a command that is refused: the number, what was shown with it, and the reason.
+// This and the two below are shown by hand, since a derived message can't leave parts out.
+#[derive(Clone, Copy)]
+pub struct Answer(pub Refusal);
+
+impl fmt::Display for Answer {
     fn fmt<W: fmt::Write>(&self, f: &mut fmt::Formatter<W>) -> fmt::Result {
-        let number = self.number();
+        let reason = self.0;
+        let number = u64::from(reason);
         write!(f, "refused {number}")?;
-        write_shown(*self, f)?;
-        f.write_str(": ")?;
-        write_reason(*self, f)
-    }
-}
-
-// The numbers that were shown with it.
-fn write_shown<W: fmt::Write>(refusal: Refusal, f: &mut fmt::Formatter<W>) -> fmt::Result {
-    match refusal {
-        Refusal::Byte { line, byte } => write!(f, " {line} {byte}"),
-        Refusal::Large { line } | Refusal::Header { line } | Refusal::NotEnded { line } => {
-            write!(f, " {line}")
+        match reason {
+            Refusal::Byte { line, byte } => write!(f, " {line} {byte}: line {line}: {reason}"),
+            Refusal::Large { line } | Refusal::Header { line } | Refusal::NotEnded { line } => {
+                write!(f, " {line}: line {line}: {reason}")
+            }
+            Refusal::Variables { found, said } | Refusal::Clauses { found, said } => {
+                write!(f, " {found} {said}: {reason}")
+            }
+            _ => write!(f, ": {reason}"),
         }
-        Refusal::Variables { found, said } | Refusal::Clauses { found, said } => {
-            write!(f, " {found} {said}")
-        }
-        _ => Ok(()),
-    }
-}
-
-fn write_reason<W: fmt::Write>(refusal: Refusal, f: &mut fmt::Formatter<W>) -> fmt::Result {
-    match refusal {
-        Refusal::NotKnownYet => f.write_str("this command isn't known yet"),
-        Refusal::NotSolvedSo => f.write_str(
-            "the last solving didn't end so: no model, or no core, to tell",
-        ),
-        Refusal::Literals => f.write_str("a literal is above 32767, or there are more than 1024"),
-        Refusal::Full => {
-            f.write_str("there would be more than 16384 variables or clauses, or 65536 literals")
-        }
-        Refusal::Proof => f.write_str("not while a proof is written, or too late for that"),
-        Refusal::Byte { line, byte } => write_byte(line, byte, f),
-        Refusal::Large { line } => {
-            write!(
-                f,
-                "line {line}: a literal, or the header's variables, above 16384"
-            )
-        }
-        Refusal::Header { line } => write!(
-            f,
-            "line {line}: the header isn't \"p cnf\" and two numbers"
-        ),
-        Refusal::NotEnded { line } => write!(f, "line {line}: the last clause isn't ended by 0"),
-        Refusal::Variables { found, said } => {
-            write!(f, "there are {found} variables, and the header says {said}")
-        }
-        Refusal::Clauses { found, said } => {
-            write!(f, "there are {found} clauses, and the header says {said}")
-        }
-        Refusal::Other(_) => f.write_str("this is no command of the machine"),
     }
 }
 
 // The reason behind the place, as compilers tell faults of a file: `:LINE: reason (refused NUMBER)`.
-pub fn write_place<W: fmt::Write>(refusal: Refusal, f: &mut fmt::Formatter<W>) -> fmt::Result {
-    let number = refusal.number();
-    match refusal {
-        Refusal::Byte { line, byte } => {
-            write!(f, ":{line}: ")?;
-            write_sign(byte, f)?;
-            f.write_str(" can't stand here")?;
-        }
-        Refusal::Large { line } => write!(
-            f,
-            ":{line}: a literal, or the header's variables, above 16384"
-        )?,
-        Refusal::Header { line } => write!(
-            f,
-            ":{line}: the header isn't \"p cnf\" and two numbers"
-        )?,
-        Refusal::NotEnded { line } => write!(f, ":{line}: the last clause isn't ended by 0")?,
-        _ => {
-            f.write_str(": ")?;
-            write_reason(refusal, f)?;
-        }
-    }
-    write!(f, " (refused {number})")
-}
+#[derive(Clone, Copy, Debug)]
+pub struct Placed(pub Refusal);
 
-// A byte that can be seen is shown as well.
-fn write_sign<W: fmt::Write>(byte: u64, f: &mut fmt::Formatter<W>) -> fmt::Result {
-    if byte > 32 && byte < 127 {
-        let sign = byte as u8 as char;
-        write!(f, "byte {byte} ('{sign}')")
-    } else {
-        write!(f, "byte {byte}")
+impl fmt::Display for Placed {
+    fn fmt<W: fmt::Write>(&self, f: &mut fmt::Formatter<W>) -> fmt::Result {
+        let reason = self.0;
+        let number = u64::from(reason);
+        match reason {
+            Refusal::Byte { line, byte } => {
+                let sign = Sign(byte);
+                write!(f, ":{line}: {sign} can't stand here")?
+            }
+            Refusal::Large { line } | Refusal::Header { line } | Refusal::NotEnded { line } => {
+                write!(f, ":{line}: {reason}")?
+            }
+            _ => write!(f, ": {reason}")?,
+        }
+        write!(f, " (refused {number})")
     }
 }
 
-fn write_byte<W: fmt::Write>(line: u64, byte: u64, f: &mut fmt::Formatter<W>) -> fmt::Result {
-    write!(f, "line {line}: ")?;
-    write_sign(byte, f)?;
-    f.write_str(" can't stand there")
+// A byte by its number, and as it looks if it can be seen.
+#[derive(Clone, Copy)]
+struct Sign(u64);
+
+impl fmt::Display for Sign {
+    fn fmt<W: fmt::Write>(&self, f: &mut fmt::Formatter<W>) -> fmt::Result {
+        let number = self.0;
+        write!(f, "byte {number}")?;
+        match u8::try_from(number) {
+            Ok(byte) if byte.is_ascii_graphic() => {
+                let sign = char::from(byte);
+                write!(f, " ('{sign}')")
+            }
+            _ => Ok(()),
+        }
+    }
 }

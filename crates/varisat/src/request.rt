@@ -4,9 +4,11 @@ ghost use Rattle.std.specs.Prelude.{◌≡◌, ℕ, ◌≤◌, List, length, IfO
 ghost use Rattle.varisat.specs.Requests.{Asked};
 
 use crate::literal::number_of;
-use std::alloc::{AllocError, AllocFailed, Global};
-use std::fmt;
+use solver::MAX_LEN;
+use std::alloc::{AllocError, Global};
 use std::num::IntErrorKind;
+use std::str::{SplitWhitespace, Utf8Error};
+use thiserror::Error;
 
 #[derive(Drop)]
 pub enum Request {
@@ -24,72 +26,44 @@ pub enum Request {
 }
 
 // Why a line can't be answered. The words that are to blame are kept.
-#[derive(Drop)]
+#[derive(Debug, Drop, Error)]
 pub enum Mistake {
-    NotText,
+    #[error("this isn't text in UTF-8")]
+    NotText(#[from] Utf8Error),
+    #[error("unknown command {0:?}")]
     UnknownCommand(String),
     // Something after a command that stands alone.
+    #[error("{0:?} stands after a command that takes nothing")]
     TakesNothing(String),
+    #[error("the name of a file is missing")]
     NoFile,
+    #[error("{0:?} is no literal")]
     NotANumber(String),
+    #[error("{0:?} is too large")]
     TooLarge(String),
+    #[error("the row isn't ended by 0")]
     NotEnded,
+    #[error("{0:?} stands after the 0")]
     AfterEnd(String),
+    #[error("the row is too long, with more than {max} literals", max = MAX_LEN)]
     RowTooLong,
+    #[error("{0:?} can't be read")]
     Unreadable(String),
+    #[error("{0:?} is longer than {max} bytes", max = MAX_LEN)]
     FileTooLong(String),
+    #[error("the steps are used up")]
     OutOfSteps,
-    NoMemory,
+    #[error("there is no memory for it")]
+    NoMemory(#[from(alloc)] AllocError),
 }
-
-impl From<AllocError> for Mistake {
-    fn from(_error: AllocError) -> Mistake {
-        Mistake::NoMemory
-    }
-}
-
-impl<T: Drop> From<AllocFailed<T>> for Mistake {
-    fn from(_refused: AllocFailed<T>) -> Mistake {
-        Mistake::NoMemory
-    }
-}
-
-impl fmt::Display for Mistake {
-    fn fmt<W: fmt::Write>(&self, f: &mut fmt::Formatter<W>) -> fmt::Result {
-        match self {
-            Mistake::NotText => f.write_str("this isn't text in UTF-8"),
-            Mistake::UnknownCommand(word) => write!(f, "unknown command {word:?}"),
-            Mistake::TakesNothing(word) => write!(
-                f,
-                "{word:?} stands after a command that takes nothing"
-            ),
-            Mistake::NoFile => f.write_str("the name of a file is missing"),
-            Mistake::NotANumber(word) => write!(f, "{word:?} is no literal"),
-            Mistake::TooLarge(word) => write!(f, "{word:?} is too large"),
-            Mistake::NotEnded => f.write_str("the row isn't ended by 0"),
-            Mistake::AfterEnd(word) => write!(f, "{word:?} stands after the 0"),
-            Mistake::RowTooLong => f.write_str(
-                "the row is too long, with more than 1048576 literals",
-            ),
-            Mistake::Unreadable(file) => write!(f, "{file:?} can't be read"),
-            Mistake::FileTooLong(file) => write!(f, "{file:?} is longer than 1048576 bytes"),
-            Mistake::OutOfSteps => f.write_str("the steps are used up"),
-            Mistake::NoMemory => f.write_str("there is no memory for it"),
-        }
-    }
-}
-
-// The longest row that the machine takes.
-const MAX_ROW: usize = 1048576;
 
 pub fn parse(heap: Global, line: &str) -> Result<Request, Mistake> {
     let line = line.trim();
-    let word = line.split_whitespace().next().unwrap_or("");
-    let rest = line.strip_prefix(word).unwrap_or("").trim();
-    if word.is_empty() || word.starts_with('#') {
+    if line.is_empty() || line.starts_with('#') {
         return Ok(Request::Nothing);
     }
-    request_of(heap, word, rest)
+    let (word, rest) = line.split_once(char::is_whitespace).unwrap_or((line, ""));
+    request_of(heap, word, rest.trim_start())
 }
 
 // The request that a command's word and the rest of its line make.
@@ -99,10 +73,7 @@ fn request_of(heap: Global, word: &str, rest: &str) -> Result<Request, Mistake>
     match word {
         "add" => Ok(Request::Add(parse_row(heap, rest)?)),
         "assume" => Ok(Request::Assume(parse_row(heap, rest)?)),
-        "read" => match file_name(heap, rest)? {
-            Some(file) => Ok(Request::Read(file)),
-            None => Err(Mistake::NoFile),
-        },
+        "read" => Ok(Request::Read(file_name(heap, rest)?.ok_or(Mistake::NoFile)?)),
         "prove" => Ok(Request::Prove(file_name(heap, rest)?)),
         _ => {
             let request = lone_request(heap, word)?;
@@ -139,33 +110,6 @@ fn file_name(heap: Global, rest: &str) -> Result<Option<String>, AllocError>
     Ok(Some(String::from_str(heap, rest)?))
 }
 
-// The literals up to the 0 that ends a row.
-fn parse_row(heap: Global, text: &str) -> Result<Vec<u64>, Mistake>
-    ensures { IfOk result (λ row. vec_len row ≤ 1048576) }
-{
-    let mut row = Vec::new(heap);
-    let mut ended = false;
-    for word in text.split_whitespace() {
-        if ended {
-            return Err(Mistake::AfterEnd(String::from_str(heap, word)?));
-        }
-        match parse_literal(heap, word)? {
-            None => ended = true,
-            Some(lit) => {
-                if row.len() == MAX_ROW {
-                    return Err(Mistake::RowTooLong);
-                }
-                row.push(lit)?;
-            }
-        }
-    }
-    if ended {
-        Ok(row)
-    } else {
-        Err(Mistake::NotEnded)
-    }
-}
-
 // The machine's number of the literal that the word is, or None for the 0 that ends a row.
 fn parse_literal(heap: Global, word: &str) -> Result<Option<u64>, Mistake> {
     let (digits, negated) = match word.strip_prefix('-') {
@@ -188,19 +132,47 @@ fn parse_literal(heap: Global, word: &str) -> Result<Option<u64>, Mistake> {
     }
 }
 
-// Literals with no 0 behind them.
-pub fn parse_literals(heap: Global, text: &str) -> Result<Vec<u64>, Mistake>
-    ensures { IfOk result (λ row. vec_len row ≤ 1048576) }
+// The literals before the first 0, and the word that is that 0, if there is one.
+fn literals<'a>(
+    heap: Global,
+    words: &mut SplitWhitespace<'a>,
+) -> Result<(Vec<u64>, Option<&'a str>), Mistake>
+    ensures { IfOk result (λ r. vec_len r.0 ≤ 1048576) }
 {
     let mut row = Vec::new(heap);
-    for word in text.split_whitespace() {
+    for word in words.by_ref() {
         let Some(lit) = parse_literal(heap, word)? else {
-            return Err(Mistake::NotANumber(String::from_str(heap, word)?));
+            return Ok((row, Some(word)));
         };
-        if row.len() == MAX_ROW {
+        if row.len() == MAX_LEN {
             return Err(Mistake::RowTooLong);
         }
         row.push(lit)?;
     }
-    Ok(row)
+    Ok((row, None))
+}
+
+// The literals up to the 0 that ends a row.
+fn parse_row(heap: Global, text: &str) -> Result<Vec<u64>, Mistake>
+    ensures { IfOk result (λ row. vec_len row ≤ 1048576) }
+{
+    let mut words = text.split_whitespace();
+    let (row, end) = literals(heap, &mut words)?;
+    if end.is_none() {
+        return Err(Mistake::NotEnded);
+    }
+    match words.next() {
+        Some(word) => Err(Mistake::AfterEnd(String::from_str(heap, word)?)),
+        None => Ok(row),
+    }
+}
+
+// Literals with no 0 behind them.
+pub fn parse_literals(heap: Global, text: &str) -> Result<Vec<u64>, Mistake>
+    ensures { IfOk result (λ row. vec_len row ≤ 1048576) }
+{
+    match literals(heap, &mut text.split_whitespace())? {
+        (row, None) => Ok(row),
+        (_, Some(word)) => Err(Mistake::NotANumber(String::from_str(heap, word)?)),
+    }
 }

@@ -1,19 +1,17 @@
 // A session: a memory of the solver, and the lines of standard input answered one by one on standard output.
 // What is promised is the machine's.
+use crate::file::{NotTaken, read_file};
 use crate::machine::Machine;
 use crate::printer::{Printer, Style};
-use crate::refusal::Refusal;
+use crate::refusal::{Answer, Refusal};
 use crate::request::{Mistake, Request, parse};
 use crate::usage;
 use solver::collected::Collected;
-use solver::kind;
+use solver::kind::Kind;
 use solver::run::End;
-use std::io::{BufRead, BufReader, Read};
+use std::io;
+use std::io::{BufRead, BufReader};
 use std::str::from_utf8;
-use std::{fs, io};
-
-// The longest file that the machine takes, in bytes.
-const MAX_FILE: u64 = 1048576;
 
 const BUDGET: u64 = u64::MAX;
 
@@ -46,10 +44,7 @@ impl Session {
     }
 
     fn read(&self, line: &[u8]) -> Result<Request, Mistake> {
-        match from_utf8(line) {
-            Ok(text) => parse(self.rt.alloc(), text),
-            Err(_) => Err(Mistake::NotText),
-        }
+        parse(self.rt.alloc(), from_utf8(line)?)
     }
 
     fn complain(&mut self, mistake: Mistake) -> io::Result<()> {
@@ -59,43 +54,48 @@ impl Session {
 
     fn answer(&mut self, request: Request) -> io::Result<()> {
         match request {
-            Request::New => self.run(kind::NEW_VAR, &[], Style::Variable),
-            Request::Add(row) => self.run(kind::ADD, row.as_slice(), Style::Done),
-            Request::Assume(row) => self.run(kind::ASSUME, row.as_slice(), Style::Done),
-            Request::Solve => self.run(kind::SOLVE, &[], Style::Number),
-            Request::Model => self.run(kind::MODEL, &[], Style::Literals),
-            Request::Core => self.run(kind::CORE, &[], Style::Literals),
+            Request::New => self.run(Kind::NewVar, &[], Style::Variable),
+            Request::Add(row) => self.run(Kind::Add, row.as_slice(), Style::Done),
+            Request::Assume(row) => self.run(Kind::Assume, row.as_slice(), Style::Done),
+            Request::Solve => self.run(Kind::Solve, &[], Style::Number),
+            Request::Model => self.run(Kind::Model, &[], Style::Literals),
+            Request::Core => self.run(Kind::Core, &[], Style::Literals),
             Request::Read(file) => self.run_read(file),
-            Request::Print => self.run(kind::PRINT, &[], Style::Text),
+            Request::Print => self.run(Kind::Print, &[], Style::Text),
             // The file is for when the machine knows of proofs.
-            Request::Prove(_) => self.run(kind::PROVE, &[], Style::Done),
+            Request::Prove(_) => self.run(Kind::Prove, &[], Style::Done),
             Request::Help => self.printer.line(usage::COMMANDS),
             Request::Nothing => Ok(()),
         }
     }
 
     // A command whose refusal shows nothing, so what it tells can be printed as it comes.
-    fn run(&mut self, kind: u64, row: &[u64], style: Style) -> io::Result<()> {
-        self.printer.begin(style);
-        match self
+    fn run(&mut self, kind: Kind, row: &[u64], style: Style) -> io::Result<()> {
+        let mut sink = self.printer.sink(style);
+        let end = self
             .machine
-            .drive(kind, row, &[], BUDGET, &mut self.printer)
-        {
-            End::Finished => self.printer.end(),
-            end => self.end_early(end, &[]),
+            .drive(u64::from(kind), row, &[], BUDGET, &mut sink);
+        match end {
+            End::Finished => sink.end(),
+            _ => self.end_early(end, &[]),
         }
     }
 
     // A file may be refused with numbers, so what is shown waits for the end.
     fn run_read(&mut self, file: String) -> io::Result<()> {
-        let bytes = match self.bytes_of(file) {
+        let bytes = match read_file(&self.rt, file.as_str()) {
             Ok(bytes) => bytes,
-            Err(mistake) => return self.complain(mistake),
+            Err(NotTaken::Io(_)) => return self.complain(Mistake::Unreadable(file)),
+            Err(NotTaken::TooLong) => return self.complain(Mistake::FileTooLong(file)),
         };
         let mut told = Collected::new(self.rt.alloc());
-        let end = self
-            .machine
-            .drive(kind::READ, &[], bytes.as_slice(), BUDGET, &mut told);
+        let end = self.machine.drive(
+            u64::from(Kind::Read),
+            &[],
+            bytes.as_slice(),
+            BUDGET,
+            &mut told,
+        );
         match (end, told.shown.as_slice()) {
             (End::Finished, [vars, clauses]) => self.printer.line(format_args!("{vars} {clauses}")),
             (_, shown) => self.end_early(end, shown),
@@ -105,39 +105,19 @@ impl Session {
     // The answer to a command that wasn't taken to its end.
     fn end_early(&mut self, end: End, shown: &[u64]) -> io::Result<()> {
         match end {
-            End::Refused(number) => self.printer.line(Refusal::of(number, shown)),
+            End::Refused(number) => self.printer.line(Answer(Refusal::of(number, shown))),
             End::Unfinished => self.complain(Mistake::OutOfSteps),
             End::Finished | End::Lost => Err(io::Error::other("the answer couldn't be printed")),
         }
-    }
-
-    // One byte more than the longest file is asked for, to see whether there is more.
-    fn bytes_of(&self, file: String) -> Result<Vec<u8>, Mistake> {
-        let mut bytes = Vec::new(self.rt.alloc());
-        let Ok(source) = fs::open(&self.rt, file.as_str()) else {
-            return Err(Mistake::Unreadable(file));
-        };
-        if source.take(MAX_FILE + 1).read_to_end(&mut bytes).is_err() {
-            return Err(Mistake::Unreadable(file));
-        }
-        if bytes.len() as u64 > MAX_FILE {
-            return Err(Mistake::FileTooLong(file));
-        }
-        Ok(bytes)
     }
 }
 
 // Answers the lines of standard input until it ends.
 pub fn serve(rt: &HostRuntime) -> io::Result<()> {
     let mut session = Session::new(rt)?;
-    let mut input = BufReader::new(rt.alloc(), rt.stdin())?;
-    let mut line = Vec::new(rt.alloc());
-    for _ in 0..u64::MAX {
-        line.clear();
-        if input.read_until(b'\n', &mut line)? == 0 {
-            break;
-        }
-        session.take(line.as_slice())?;
+    let input = BufReader::new(rt.alloc(), rt.stdin())?;
+    for line in input.split(rt.alloc(), b'\n') {
+        session.take(line?.as_slice())?;
     }
     Ok(())
 }

@@ -1,99 +1,69 @@
 // A file solved: its answer as the competitions of solvers have it, `s` and `v` lines, with comments behind `c`.
 // What is promised is the machine's; what is printed no contract can speak of.
+use crate::file::{NotTaken, bytes_of, read_file};
 use crate::literal::Literal;
 use crate::machine::Machine;
 use crate::options::Options;
-use crate::refusal::{Refusal, write_place};
+use crate::refusal::{Placed, Refusal};
 use solver::collected::Collected;
-use solver::kind;
+use solver::kind::Kind;
 use solver::run::End;
-use std::alloc::{AllocError, AllocFailed};
-use std::io::{BufWriter, Read, Stdout, Write};
-use std::{fmt, fs, io};
-
-// The longest file that the machine takes, in bytes.
-const MAX_FILE: u64 = 1048576;
+use std::alloc::AllocError;
+use std::io;
+use std::io::{BufWriter, Stdout, Write};
+use thiserror::Error;
 
 // So many steps are taken before it is told how many there were.
 const PROGRESS: u64 = 4_000_000;
 
-// The longest line of literals.
-const WIDTH: usize = 78;
+// So many literals stand in a line, which then has at most 78 letters.
+const PER_LINE: usize = 10;
 
 // Why a file couldn't be solved.
-#[derive(Drop)]
+#[derive(Debug, Drop, Error)]
 pub enum Trouble {
-    Unreadable(String, io::Error),
-    TooLong(String),
-    Wrong(String, Refusal),
-    Assumptions(Refusal),
-    Io(io::Error),
-    NoMemory,
+    #[error("{0}: {1}")]
+    NotTaken(String, NotTaken),
+    #[error("{0}{1}")]
+    Wrong(String, Placed),
+    #[error("--assume{0}")]
+    Assumptions(Placed),
+    #[error(transparent)]
+    Io(#[from] io::Error),
+    #[error("there is no memory for it")]
+    NoMemory(#[from(alloc)] AllocError),
     // The machine's answer was none.
+    #[error("the machine gave no answer")]
     Unanswered,
 }
 
-impl From<AllocError> for Trouble {
-    fn from(_error: AllocError) -> Trouble {
-        Trouble::NoMemory
-    }
-}
-
-impl<T: Drop> From<AllocFailed<T>> for Trouble {
-    fn from(_refused: AllocFailed<T>) -> Trouble {
-        Trouble::NoMemory
-    }
-}
-
-impl From<io::Error> for Trouble {
-    fn from(error: io::Error) -> Trouble {
-        Trouble::Io(error)
-    }
-}
-
-impl fmt::Display for Trouble {
-    fn fmt<W: fmt::Write>(&self, f: &mut fmt::Formatter<W>) -> fmt::Result {
-        match self {
-            Trouble::Unreadable(file, error) => write!(f, "{file}: {error}"),
-            Trouble::TooLong(file) => write!(
-                f,
-                "{file}: longer than 1048576 bytes, the most that is read"
-            ),
-            Trouble::Wrong(file, refusal) => {
-                f.write_str(file.as_str())?;
-                write_place(*refusal, f)
-            }
-            Trouble::Assumptions(refusal) => {
-                f.write_str("--assume")?;
-                write_place(*refusal, f)
-            }
-            Trouble::Io(error) => write!(f, "{error}"),
-            Trouble::NoMemory => f.write_str("there is no memory for it"),
-            Trouble::Unanswered => f.write_str("the machine gave no answer"),
-        }
-    }
-}
-
 #[derive(Drop)]
-struct Solving {
+struct Solving<'a> {
     rt: HostRuntime,
+    options: &'a Options,
     machine: Machine,
+    out: BufWriter<Stdout>,
     steps: u64,
 }
 
-impl Solving {
-    fn new(rt: &HostRuntime) -> Result<Solving, AllocError> {
+impl<'a> Solving<'a> {
+    fn new(rt: &HostRuntime, options: &'a Options) -> Result<Solving<'a>, Trouble> {
         Ok(Solving {
             rt: *rt,
+            options,
             machine: Machine::new(rt.alloc())?,
+            out: BufWriter::new(rt.alloc(), rt.stdout())?,
             steps: 0,
         })
     }
 
     // A command taken to its end, and what it showed.
-    fn say(&mut self, kind: u64, row: &[u64], bytes: &[u8]) -> (End, Vec<u64>) {
+    fn say(&mut self, kind: Kind, row: &[u64], bytes: &[u8]) -> Result<Vec<u64>, Refusal> {
         let mut told = Collected::new(self.rt.alloc());
-        let mut end = self.machine.drive(kind, row, bytes, PROGRESS, &mut told);
+        let mut end = self
+            .machine
+            .drive(u64::from(kind), row, bytes, PROGRESS, &mut told);
+        // Nothing bounds a search, and a loop must end, so its turns are counted.
         for _ in 0..u64::MAX {
             if !matches!(end, End::Unfinished) {
                 break;
@@ -103,95 +73,100 @@ impl Solving {
             let _ = eprintln!(self.rt; "c {steps} steps");
             end = self
                 .machine
-                .drive(kind::GO_ON, &[], &[], PROGRESS, &mut told);
+                .drive(u64::from(Kind::GoOn), &[], &[], PROGRESS, &mut told);
         }
-        let Collected { shown, written: _ } = told;
-        (end, shown)
+        match end {
+            End::Refused(number) => Err(Refusal::of(number, told.shown.as_slice())),
+            End::Finished | End::Unfinished | End::Lost => Ok(told.shown),
+        }
+    }
+
+    // What a command shows that isn't refused where it is asked.
+    fn ask(&mut self, kind: Kind) -> Result<Vec<u64>, Trouble> {
+        self.say(kind, &[], &[]).map_err(|_| Trouble::Unanswered)
+    }
+
+    fn read(&mut self, bytes: &[u8]) -> Result<(), Trouble> {
+        let shown = match self.say(Kind::Read, &[], bytes) {
+            Ok(shown) => shown,
+            Err(refusal) => {
+                return Err(Trouble::Wrong(self.options.file.clone()?, Placed(refusal)));
+            }
+        };
+        if self.options.stats
+            && let [vars, clauses] = shown.as_slice()
+        {
+            writeln!(self.out, "c {vars} variables, {clauses} clauses")?;
+        }
+        Ok(())
+    }
+
+    fn assume(&mut self) -> Result<(), Trouble> {
+        if !self.options.assumed.is_empty() {
+            self.say(Kind::Assume, self.options.assumed.as_slice(), &[])
+                .map_err(|refusal| Trouble::Assumptions(Placed(refusal)))?;
+        }
+        Ok(())
+    }
+
+    fn solve(&mut self) -> Result<(), Trouble> {
+        match self.ask(Kind::Solve)?.as_slice() {
+            [1] => self.print_yes()?,
+            [_] => self.print_no()?,
+            _ => return Err(Trouble::Unanswered),
+        }
+        Ok(self.out.flush()?)
+    }
+
+    fn print_yes(&mut self) -> Result<(), Trouble> {
+        self.out.write_all(b"s SATISFIABLE\n")?;
+        if self.options.model {
+            let model = self.ask(Kind::Model)?;
+            self.print_literals("v", model.as_slice())?;
+        }
+        Ok(())
+    }
+
+    fn print_no(&mut self) -> Result<(), Trouble> {
+        if !self.options.assumed.is_empty() {
+            let core = self.ask(Kind::Core)?;
+            self.print_literals("c core", core.as_slice())?;
+        }
+        Ok(self.out.write_all(b"s UNSATISFIABLE\n")?)
+    }
+
+    // Literals in lines of their own, each behind the same words.
+    fn print_literals(&mut self, words: &str, row: &[u64]) -> io::Result<()> {
+        self.out.write_all(words.as_bytes())?;
+        for (at, lit) in row.iter().enumerate() {
+            if at > 0 && at % PER_LINE == 0 {
+                self.out.write_all(b"\n")?;
+                self.out.write_all(words.as_bytes())?;
+            }
+            let lit = Literal(*lit);
+            write!(self.out, " {lit}")?;
+        }
+        self.out.write_all(b" 0\n")
     }
 }
 
-// The bytes of a file, or of standard input for "-". One more than the longest is asked for, to see whether there is more.
-fn bytes_of(rt: &HostRuntime, file: &String) -> Result<Vec<u8>, Trouble> {
-    let mut bytes = Vec::new(rt.alloc());
-    let taken = if file.as_str() == "-" {
-        rt.stdin().take(MAX_FILE + 1).read_to_end(&mut bytes)
-    } else {
-        match fs::open(rt, file.as_str()) {
-            Ok(source) => source.take(MAX_FILE + 1).read_to_end(&mut bytes),
-            Err(error) => Err(error),
-        }
+// The bytes of a file, or of standard input for "-".
+fn take_file(rt: &HostRuntime, name: &str) -> Result<Vec<u8>, Trouble> {
+    let taken = match name {
+        "-" => bytes_of(rt.alloc(), rt.stdin()),
+        path => read_file(rt, path),
     };
-    if let Err(error) = taken {
-        return Err(Trouble::Unreadable(file.clone()?, error));
+    match taken {
+        Ok(bytes) => Ok(bytes),
+        Err(error) => Err(Trouble::NotTaken(String::from_str(rt.alloc(), name)?, error)),
     }
-    if bytes.len() as u64 > MAX_FILE {
-        return Err(Trouble::TooLong(file.clone()?));
-    }
-    Ok(bytes)
-}
-
-// Literals in lines of their own, each behind the same words.
-fn print_literals(out: &mut BufWriter<Stdout>, words: &str, row: &[u64]) -> io::Result<()> {
-    out.write_all(words.as_bytes())?;
-    let mut width = words.len();
-    for lit in row {
-        let lit = Literal(*lit);
-        if width >= WIDTH - 8 {
-            out.write_all(b"\n")?;
-            out.write_all(words.as_bytes())?;
-            width = words.len();
-        }
-        write!(out, " {lit}")?;
-        width = width.saturating_add(7);
-    }
-    out.write_all(b" 0\n")
-}
-
-fn print_answer(
-    solving: &mut Solving,
-    out: &mut BufWriter<Stdout>,
-    options: &Options,
-    answer: u64,
-) -> Result<(), Trouble> {
-    if answer == 1 {
-        out.write_all(b"s SATISFIABLE\n")?;
-        if options.model {
-            let (_end, model) = solving.say(kind::MODEL, &[], &[]);
-            print_literals(out, "v", model.as_slice())?;
-        }
-    } else {
-        if !options.assumed.is_empty() {
-            let (_end, core) = solving.say(kind::CORE, &[], &[]);
-            print_literals(out, "c core", core.as_slice())?;
-        }
-        out.write_all(b"s UNSATISFIABLE\n")?;
-    }
-    Ok(out.flush()?)
 }
 
 // Reads a file, solves it under what is assumed, and prints the answer.
 pub fn solve_file(rt: &HostRuntime, options: &Options) -> Result<(), Trouble> {
-    let bytes = bytes_of(rt, &options.file)?;
-    let mut solving = Solving::new(rt)?;
-    let mut out = BufWriter::new(rt.alloc(), rt.stdout())?;
-    let (end, shown) = solving.say(kind::READ, &[], bytes.as_slice());
-    if let End::Refused(number) = end {
-        return Err(Trouble::Wrong(options.file.clone()?, Refusal::of(number, shown.as_slice())));
-    }
-    if options.stats {
-        if let [vars, clauses] = shown.as_slice() {
-            writeln!(out, "c {vars} variables, {clauses} clauses")?;
-        }
-    }
-    if !options.assumed.is_empty() {
-        let (end, _shown) = solving.say(kind::ASSUME, options.assumed.as_slice(), &[]);
-        if let End::Refused(number) = end {
-            return Err(Trouble::Assumptions(Refusal::of(number, &[])));
-        }
-    }
-    let (_end, shown) = solving.say(kind::SOLVE, &[], &[]);
-    match shown.as_slice() {
-        [answer] => print_answer(&mut solving, &mut out, options, *answer),
-        _ => Err(Trouble::Unanswered),
-    }
+    let bytes = take_file(rt, options.file.as_str())?;
+    let mut solving = Solving::new(rt, options)?;
+    solving.read(bytes.as_slice())?;
+    solving.assume()?;
+    solving.solve()
 }

@@ -1,63 +1,46 @@
-use Rattle.std.proofs.Common.{rules}
-use Rattle.solver.proofs.Steps.{steps, stays, fits_sized, fits_room, fits_bytes, quiet_written, kind_0, kind_1, kind_2, kind_3, kind_4, kind_5, kind_6, kind_7, kind_9, step_unknown, new_var_quiet, add_quiet, assume_quiet, solve_quiet, model_quiet, core_quiet, read_quiet}
+use Rattle.std.proofs.Common.{◌≡◌, ◌≤◌, ◌++◌, length, drop, leb, sym, ◌∙◌, arith, length-append, length-drop}
+use Rattle.std.proofs.lemmas.Bool.{and_parts, leb-true}
+use borrow.Author.Tests.{clash}
+use Rattle.solver.proofs.KindNumbers.{number_small}
+use Rattle.solver.proofs.Steps.{fits_all, fits_kind, fits_room, fits_short, fits_sized, stays, step_taken, written_on}
 use Rattle.solver.proofs.step.Goals as goal
 
-pub returns-then-not-fits : goal.returns-then-not-fits
-returns-then-not-fits c = search (rules, stays)
-
-pub new_var-requires : goal.new_var-requires
-new_var-requires c = search (rules, fits_sized)
-
-pub returns-in-0 : goal.returns-in-0
-returns-in-0 c = search (rules, steps, kind_0, quiet_written, new_var_quiet)
-
-pub add-requires : goal.add-requires
-add-requires c = search (rules, fits_sized)
-
-pub returns-in-1 : goal.returns-in-1
-returns-in-1 c = search (rules, steps, kind_1, quiet_written, add_quiet)
-
-pub assume-requires : goal.assume-requires
-assume-requires c = search (rules, fits_sized)
-
-pub returns-in-2 : goal.returns-in-2
-returns-in-2 c = search (rules, steps, kind_2, quiet_written, assume_quiet)
-
-pub solve-requires : goal.solve-requires
-solve-requires c = search (rules, fits_sized)
-
-pub returns-in-3 : goal.returns-in-3
-returns-in-3 c = search (rules, steps, kind_3, quiet_written, solve_quiet)
-
-pub model-requires : goal.model-requires
-model-requires c = search (rules, fits_sized)
-
-pub returns-in-4 : goal.returns-in-4
-returns-in-4 c = search (rules, steps, kind_4, quiet_written, model_quiet)
-
-pub core-requires : goal.core-requires
-core-requires c = search (rules, fits_sized)
-
-pub returns-in-5 : goal.returns-in-5
-returns-in-5 c = search (rules, steps, kind_5, quiet_written, core_quiet)
-
-pub read_in-requires : goal.read_in-requires
-read_in-requires c = search (rules, fits_sized, fits_bytes)
-
-pub returns-in-6 : goal.returns-in-6
-returns-in-6 c = search (rules, steps, kind_6, quiet_written, read_quiet)
-
-pub print-requires : goal.print-requires
-print-requires c = search (rules, fits_sized, fits_room)
-
-pub returns-in-7 : goal.returns-in-7
-returns-in-7 c = search (rules, steps, kind_7)
-
-pub go_on-requires : goal.go_on-requires
-go_on-requires c = search (rules, fits_sized, fits_room)
-
-pub returns-in-9 : goal.returns-in-9
-returns-in-9 c = search (rules, steps, kind_9)
+pub returns-then-not-are_short : goal.returns-then-not-are_short
+returns-then-not-are_short c =
+    stays c.args.memory.now c.args.kind c.args.row.now c.args.bytes.now c.args.out.now _ c.into.ensures
+    (λ f. clash (sym c.if-not-are_short.true ∙ c.are_short.ensures ∙ fits_short _ c.args.kind c.args.row.now c.args.bytes.now _ f))
 
 pub returns-in_default : goal.returns-in_default
-returns-in_default c = search (rules, step_unknown)
+returns-in_default c =
+    stays c.args.memory.now c.args.kind c.args.row.now c.args.bytes.now c.args.out.now _ c.into-in_default.ensures
+    (λ f. let h = fits_kind _ _ _ _ _ f in grind arith)
+
+pub returns-in_default-as_mut_array : goal.returns-in_default-as_mut_array
+returns-in_default-as_mut_array c =
+    stays c.args.memory.now c.args.kind c.args.row.now c.args.bytes.now c.args.out.now _ c.into-in_default-as_mut_array.ensures
+    (λ f. let h = fits_sized _ _ _ _ _ f in grind arith)
+
+pub returns-in_default-first_chunk_mut : goal.returns-in_default-first_chunk_mut
+returns-in_default-first_chunk_mut c =
+    rw c.in-Some.ensures.cases.same
+    (stays c.args.memory.now c.args.kind c.args.row.now c.args.bytes.now c.args.out.now _ c.into-in_default-first_chunk_mut.ensures
+    (λ f. let h = fits_room _ _ _ _ _ f in grind arith))
+
+pub take-requires : goal.take-requires
+take-requires c = leb-true _ _ (and_parts (leb (length c.args.row.now) 1048576) _ (sym c.are_short.ensures ∙ c.if-not-are_short.false)).1
+
+pub returns : goal.returns
+returns c =
+    let m = c.in-Some.ensures.cases.same in
+    let b = c.in-Some-first_chunk_mut.ensures.cases in
+    let sized = c.in-Some.ensures.cases.long in
+    let small : c.args.kind ≤ 9 = let h = number_small c.in-Ok.kind in grind arith in
+    let long : length c.take.new.m ≡ length c.args.memory.now = omega arith in
+    let whole : length (c.take.new.out ++ drop 128 c.args.out.now) ≡ length c.args.out.now = omega arith in
+    let parts = length-append c.take.new.out (drop 128 c.args.out.now) in
+    let rest = length-drop 128 c.args.out.now in
+    let enough = b.enough in
+    let full : length c.take.new.out ≡ 128 = omega arith in
+    step_taken c.args.memory.now c.take.new.m c.args.kind _ c.args.row.now c.args.bytes.now c.args.out.now _ c.take.result
+    (fits_all _ _ _ _ _ sized small (sym c.are_short.ensures ∙ c.if-not-are_short.false) b.enough) c.in-Ok.ensures long (rw m at c.take.ensures.taken)
+    (written_on _ c.in-Some-first_chunk_mut.out.now c.take.new.out c.args.out.now b.same b.enough full (rw m at c.take.ensures.bytes))

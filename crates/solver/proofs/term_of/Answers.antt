@@ -6,9 +6,6 @@ use Rattle.solver.proofs.term_of.Goals.{then-at-half-2, else-at-half-2}
 pub loop-largest-init : goal.loop-largest-init
 loop-largest-init c = within_start c.args.n c.requires
 
-pub overflow_mul-half : goal.overflow_mul-half
-overflow_mul-half c = let s = c.loop-largest.invariant.small in search rules
-
 pub returns-then-at-half : goal.returns-then-at-half
 returns-then-at-half c = search (rules, within_last)
 

@@ -1,16 +1,11 @@
-use Rattle.std.proofs.Common.{arith}
-use Rattle.std.proofs.lemmas.List.{take_rest}
-use Rattle.dimacs.proofs.Headings.{no_word, number_word, plus_word, plus_alone}
+use Rattle.std.proofs.Common.{sym, ◌∙◌}
+use Rattle.dimacs.proofs.Headings.{parsed_is, unread_at, text_at}
 use Rattle.dimacs.proofs.header.word_number.Goals as goal
 
-pub returns-then-is_empty : goal.returns-then-is_empty
-returns-then-is_empty c = let k = no_word c.args.word.now in grind arith
-
-pub returns-then-word-ne-PLUS : goal.returns-then-word-ne-PLUS
-returns-then-word-ne-PLUS c = let k = number_word c.args.word.now in grind arith
-
-pub returns-then-word-eq1 : goal.returns-then-word-eq1
-returns-then-word-eq1 c = let k = plus_alone c.args.word.now in grind arith
+pub returns-in_err-ok : goal.returns-in_err-ok
+returns-in_err-ok c = c.from_residual.ensures ∙ unread_at c.args.word.now _ _ c.from_utf8.result c.from_utf8.ensures.cases (sym c.ok.ensures.value ∙ c.in_err-ok.was)
 
 pub returns : goal.returns
-returns c = let k = plus_word c.args.word.now in let e = take_rest c.args.word.now 1 in grind arith
+returns c =
+    let t = text_at _ _ c.from_utf8.result c.in_ok-ok.field-0 c.from_utf8.ensures.cases (sym c.ok.ensures.value ∙ c.in_ok-ok.was) in
+    rw (← t.0) (c.ok-2.ensures.value ∙ parsed_is c.in_ok-ok.field-0.now c.parse.result c.parse.ensures.value.0)

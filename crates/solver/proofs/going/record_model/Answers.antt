@@ -1,18 +1,15 @@
-use Rattle.std.proofs.Common.{◌≡◌, ℕ, ◌+◌, ◌-◌, min, ltb, List, sym, ap, ◌∙◌, arith}
+use Rattle.std.proofs.Common.{ℕ, ◌+◌, ◌-◌, min, ltb, List, sym, ap, ◌∙◌, arith}
 use Rattle.formula.specs.Logic.{pick}
 use Rattle.search.specs.Plain.{model_lit}
 use Rattle.solver.specs.State.{view}
 use Rattle.solver.proofs.Turning.{recorded, recorded_more, recorded_none}
 use Rattle.solver.proofs.going.record_model.Goals as goal
 
-pub loop-var-init : goal.loop-var-init
-loop-var-init c = let e : c.min-vars.result - 0 ≡ c.min-vars.result = omega arith in ap (recorded (view c.args.m.now) 0) e
-
 pub loop-var-preserved : goal.loop-var-preserved
 loop-var-preserved c =
-    recorded_more (view c.loop-var.m) (view c.write_model.new.m) c.loop-var.var (c.min-vars.result - c.loop-var.var) (c.min-vars.result - (c.loop-var.var + 1))
+    recorded_more (view c.loop-var.m) (view c.put_in.new.m) c.loop-var.var (c.min-vars.result - c.loop-var.var) (c.min-vars.result - (c.loop-var.var + 1))
     c.model_literal-lit.result (omega arith) (omega arith)
-    (c.model_literal-lit.ensures ∙ ap (λ (w : List ℕ). pick (ltb c.loop-var.var 16384) (model_lit w c.loop-var.var) 0) c.work.ensures) c.write_model.ensures
+    (c.model_literal-lit.ensures ∙ ap (λ (w : List ℕ). pick (ltb c.loop-var.var 16384) (model_lit w c.loop-var.var) 0) c.table_in.ensures) c.put_in.ensures
     ∙ c.loop-var.invariant
 
 pub returns : goal.returns

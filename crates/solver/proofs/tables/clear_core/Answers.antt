@@ -1,9 +1,12 @@
-use Rattle.std.proofs.Common.{◌≡◌, length, ap, ◌∙◌, arith}
-use Rattle.solver.specs.State.{view, with_core}
-use Rattle.solver.proofs.MemoryMap.{view_core, part_zeros}
+use Rattle.std.proofs.Common.{◌≡◌, length, ap, rules, arith}
+use Rattle.solver.specs.State.{view, zeros}
+use Rattle.solver.specs.declared.tables.Table.TheVariants.{Core}
+use Rattle.solver.proofs.MemoryMap.{table_long}
 use Rattle.solver.proofs.tables.clear_core.Goals as goal
 
 pub returns : goal.returns
+unfolding zeros
 returns c =
-    let h : length c.clear.new.table ≡ 1024 = omega arith in
-    view_core c.args.m.now c.clear.new.table c.requires h ∙ ap (with_core (view c.args.m.now)) (c.clear.ensures ∙ part_zeros 1280 1024 c.args.m.now (omega arith))
+    let long : length (view c.args.m.now).core ≡ 1024 = table_long c.args.m.now Core (omega arith) in
+    let z : zeros (length (view c.args.m.now).core) ≡ zeros 1024 = ap zeros long in
+    search rules

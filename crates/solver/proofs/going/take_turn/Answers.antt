@@ -1,9 +1,0 @@
-use Rattle.std.proofs.Common.{rules}
-use Rattle.solver.proofs.Turning.{turn_marks, turn_plain}
-use Rattle.solver.proofs.going.take_turn.Goals as goal
-
-pub returns-in-Failed : goal.returns-in-Failed
-returns-in-Failed c = search (rules, turn_marks)
-
-pub returns-in_default : goal.returns-in_default
-returns-in_default c = search (rules, turn_plain)
