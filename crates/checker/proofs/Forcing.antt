@@ -1,12 +1,13 @@
 -- How forced literals grow: by a clause of which all others are false, until a clause is all false.
-use Rattle.std.proofs.Common.{◌≡◌, ℕ, zero, suc, ◌+◌, ◌<◌, ◌≤◌, true, false, eqb, ◌⊎◌, List, [], ◌∷◌, length, get_or, set, replicate, vec_items, sym, refl, ap, ◌∙◌, subst, inl, inr, arith}
-use Rattle.std.proofs.lemmas.List.{get_or-set_same, get_or-set_other, set_past}
-use Rattle.std.proofs.lemmas.Bool.{cases_eq, cases_lt, eqb-true, eq-eqb, ne_eqb}
+use Rattle.std.proofs.Common.{◌≡◌, ℕ, zero, suc, ◌<◌, true, false, eqb, ◌⊎◌, List, [], ◌∷◌, length, get_or, set, Some, None, Option, MatchOption, IfNone, vec_items, sym, refl, ap, ◌∙◌, subst, inl, inr, arith}
+use Rattle.std.proofs.lemmas.List.{get_or-set_other}
+use Rattle.std.proofs.lemmas.Bool.{cases_eq, eqb-true, eq-eqb}
+use Rattle.std.specs.List.{AllWithin}
 use Rattle.formula.specs.Logic.{Clause, other, by_propagation}
 use Rattle.formula.proofs.Rows.{clash, In}
 use Rattle.formula.proofs.Completeness.{complete, forced_in, clash_in}
 use Rattle.checker.specs.declared.trail.Trail.{Trail}
-use Rattle.checker.specs.Forced.{is_true, Forced, AllForced, Low, Grows, Refuted}
+use Rattle.checker.specs.Forced.{is_true, Forced, AllForced, Grows, Refuted}
 
 -- ELEMENTS by their places
 pub in_at : (xs : List ℕ) (i d : ℕ) → i < length xs → In (get_or xs i d) xs
@@ -19,8 +20,10 @@ at_in [] k d j = absurd j
 at_in (x ∷ xs) k d (inl e) = (0, omega arith, e)
 at_in (x ∷ xs) k d (inr j) = let r = at_in xs k d j in (suc r.0, (let h = r.1 in omega arith), r.2)
 
-pub from_places : (P : ℕ → Type 0) (xs : List ℕ) (n : ℕ) → length xs ≤ n → ((i : ℕ) → i < n → P (get_or xs i 0)) → (k : ℕ) → In k xs → P k
-from_places P xs n h f k j = let r = at_in xs k 0 j in subst P (sym r.2) (f r.0 (let l = r.1 in omega arith))
+-- a search that finds none
+pub none_found : (P : ℕ → Type 0) (xs : List ℕ) (o : Option ℕ) (Q : ℕ → Type 0) → MatchOption o (AllWithin P xs 0 (length xs)) Q → IfNone o ((k : ℕ) → In k xs → P k)
+none_found P xs None Q f = λ k j. let r = at_in xs k 0 j in subst P (sym r.2) (f r.0 0 (omega arith) r.1)
+none_found P xs (Some x) Q f = tt
 
 -- BY CLAUSES
 pub forced_by : (cs : List Clause) (c r : Clause) (l : ℕ) (t : Trail) → In r cs → ((k : ℕ) → In k r → (k ≡ l) ⊎ (is_true t (other k) ≡ true)) → AllForced cs c t → Forced cs c l
@@ -43,41 +46,26 @@ true_after t t₁ l k p q e = elim (cases_eq k l) [
       (sym (get_or-set_other (vec_items t.stamps) l k t.round 0 h) ∙ (sym (ap (λ (xs : List ℕ). get_or xs k 0) q) ∙ (eqb-true (get_or (vec_items t₁.stamps) k 0) t₁.round e ∙ p))))
 ]
 
-pub low_after : (t t₁ : Trail) (l : ℕ) → t₁.round ≡ t.round → vec_items t₁.stamps ≡ set (vec_items t.stamps) l t.round → Low t → Low t₁
-unfolding Low
-low_after t t₁ l p q h k =
-    let e : get_or (vec_items t₁.stamps) k 0 ≡ get_or (set (vec_items t.stamps) l t.round) k 0 = ap (λ (xs : List ℕ). get_or xs k 0) q in
-    elim (cases_eq k l) [
-      | inl m ↦ (let n : get_or (set (vec_items t.stamps) l t.round) k 0 ≡ get_or (set (vec_items t.stamps) l t.round) l 0 = ap (λ x. get_or (set (vec_items t.stamps) l t.round) x 0) m in
-          elim (cases_lt l (length (vec_items t.stamps))) [
-            | inl b ↦ omega (arith, get_or-set_same (vec_items t.stamps) l t.round 0 b)
-            | inr b ↦ omega (arith, h l, ap (λ (xs : List ℕ). get_or xs l 0) (set_past (vec_items t.stamps) l t.round b))
-          ])
-      | inr m ↦ omega (arith, h k, get_or-set_other (vec_items t.stamps) l k t.round 0 m)
-    ]
-
 -- in a round
 pub grows_same : (cs : List Clause) (t : Trail) → Grows cs t t
-grows_same cs t = record { same = refl; low = λ h. h; sound = λ c f. f }
+grows_same cs t = record { same = refl; sound = λ c f. f }
 
 pub grows_then : (cs : List Clause) (t t₁ t₂ : Trail) → Grows cs t t₁ → Grows cs t₁ t₂ → Grows cs t t₂
-grows_then cs t t₁ t₂ g h = record { same = h.same ∙ g.same; low = λ k. h.low (g.low k); sound = λ c f. h.sound c (g.sound c f) }
+grows_then cs t t₁ t₂ g h = record { same = h.same ∙ g.same; sound = λ c f. h.sound c (g.sound c f) }
 
 pub grows_set : (cs : List Clause) (t t₁ : Trail) (r : Clause) (l : ℕ) → In r cs → ((k : ℕ) → In k r → (k ≡ l) ⊎ (is_true t (other k) ≡ true)) →
     t₁.round ≡ t.round → vec_items t₁.stamps ≡ set (vec_items t.stamps) l t.round → Grows cs t t₁
 unfolding AllForced
 grows_set cs t t₁ r l i h p q = record {
   same = p;
-  low = low_after t t₁ l p q;
   sound = λ c f k e. elim (true_after t t₁ l k p q e) [ inl m ↦ subst (λ x. Forced cs c x) (sym m) (forced_by cs c r l t i h f) | inr m ↦ f k m ];
 }
 
 -- the queue's head alone
 pub grows_stamps : (cs : List Clause) (t t₁ : Trail) → t₁.round ≡ t.round → t₁.stamps ≡ t.stamps → Grows cs t t₁
-unfolding AllForced Low
+unfolding AllForced
 grows_stamps cs t t₁ p q = record {
   same = p;
-  low = λ h l. let e = ap (λ v. get_or (vec_items v) l 0) q in omega (arith, h l);
   sound = λ c f l e. f l (sym (ap (λ v. eqb (get_or (vec_items v) l 0) t₁.round) q ∙ ap (eqb (get_or (vec_items t.stamps) l 0)) p) ∙ e);
 }
 
@@ -98,24 +86,6 @@ assumed t t₁ c l m i o p q f cs k e = elim (true_after t t₁ m k p q e) [ inl
 pub assumed_clash : (t : Trail) (c : Clause) (l : ℕ) → In l c → is_true t l ≡ true → ((cs : List Clause) → AllForced cs c t) → (cs : List Clause) → by_propagation cs c ≡ true
 unfolding AllForced Forced
 assumed_clash t c l i e f cs = complete cs c (λ us g a s. a l (f cs l e us g a s) (g l i))
-
--- A NEW ROUND
-pub begun : (t t₁ : Trail) → t₁.stamps ≡ t.stamps → t₁.round ≡ t.round + 1 → Low t → Low t₁ × ((l : ℕ) → is_true t₁ l ≡ false)
-unfolding Low
-begun t t₁ p q h = (
-  (λ l. let e = ap (λ v. get_or (vec_items v) l 0) p in omega (arith, h l)),
-  (λ l. let e = ap (λ v. get_or (vec_items v) l 0) p in ne_eqb (get_or (vec_items t₁.stamps) l 0) t₁.round (λ m. omega (arith, h l))),
-)
-
-pub low_new : (t : Trail) (n : ℕ) → vec_items t.stamps ≡ replicate {A = ℕ} n 0 → Low t
-unfolding Low
-low_new t n e l = let z : get_or (vec_items t.stamps) l 0 ≡ get_or (replicate {A = ℕ} n 0) l 0 = ap (λ (xs : List ℕ). get_or xs l 0) e in omega (arith, zeros n l)
-  where
-    zeros : (n l : ℕ) → get_or {A = ℕ} (replicate n 0) l 0 ≡ 0
-    zeros zero zero = refl
-    zeros zero (suc l) = refl
-    zeros (suc n) zero = refl
-    zeros (suc n) (suc l) = zeros n l
 
 pub refuted_empty : (cs : List Clause) (r : Clause) (t : Trail) → In r cs → length r ≡ 0 → Refuted cs t
 refuted_empty cs [] t i e = refuted_by cs [] t i (λ k j. absurd j)

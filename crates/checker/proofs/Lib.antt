@@ -1,6 +1,5 @@
 pub mod Forcing
 pub mod Counting
-pub mod InputRows
 pub mod Stepping
 pub mod Rounds
 pub mod TextRead

@@ -25,8 +25,8 @@ pub propagated_yes : (cs : List Clause) (t t₁ t₂ : Trail) (b : Bool) → Gro
 propagated_yes cs t t₁ t₂ b g e p = subst (λ (x : Bool). Propagated cs t t₂ x) e (propagated_then cs t t₁ t₂ b g p)
 
 pub answered_assumed : (cs : List Clause) (c : Clause) (t t₁ t₂ : Trail) (b : Bool) → t₁.round ≡ t.round + 1 → b ≡ true → Assumed c t₁ t₂ b → Answered cs c t t₂ true
-answered_assumed cs c t t₁ t₂ b r e a = record { low = a.low; round = a.same ∙ r; right = λ _. a.clash e cs }
+answered_assumed cs c t t₁ t₂ b r e a = record { round = a.same ∙ r; right = λ _. a.clash e cs }
 
 pub answered_by : (cs : List Clause) (c : Clause) (t t₁ t₂ t₃ : Trail) (a b : Bool) → t₁.round ≡ t.round + 1 → Assumed c t₁ t₂ a → Propagated cs t₂ t₃ b → Answered cs c t t₃ b
 unfolding Refuted
-answered_by cs c t t₁ t₂ t₃ a b r s p = record { low = p.grows.low s.low; round = p.grows.same ∙ (s.same ∙ r); right = λ e. p.clash e c (s.sound cs) }
+answered_by cs c t t₁ t₂ t₃ a b r s p = record { round = p.grows.same ∙ (s.same ∙ r); right = λ e. p.clash e c (s.sound cs) }

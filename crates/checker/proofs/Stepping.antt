@@ -1,7 +1,10 @@
 -- The steps, one after another: how far the check has come after each, and what that says at the end.
-use Rattle.std.proofs.Common.{◌≡◌, ℕ, zero, suc, ◌+◌, ◌-◌, ◌<◌, ◌≤◌, Bool, true, List, [], ◌∷◌, ◌++◌, map, length, get_or, drop, replicate, vec_items, sym, refl, ap, ◌∙◌, subst, arith, length-append}
-use lib.ListN.{length-replicate, length-map}
-use Rattle.std.proofs.lemmas.List.{drop_all, nil_from_length}
+use Rattle.std.proofs.Common.{◌≡◌, ℕ, zero, suc, ◌+◌, ◌<◌, ◌≤◌, List, [], ◌∷◌, ◌++◌, map, length, get_or, drop, Some, Bor, Bool, true, false, take, vec_items, sym, ap, ◌∙◌, subst, arith}
+use lib.ListN.{length-map}
+use mathlib.Core.Bool.{false≢true}
+use Rattle.std.specs.Bool.{MatchBool}
+use Rattle.std.specs.List.{HoldsAt}
+use Rattle.std.proofs.lemmas.List.{drop_all, get_or-map, drop_more, take_more}
 use Rattle.std.proofs.lemmas.Bool.{and_from}
 use Rattle.formula.specs.Logic.{none_of, Clause, Step, adds, deletes, by_propagation, holds, has_empty, without}
 use Rattle.formula.proofs.Rows.{or_right}
@@ -10,63 +13,57 @@ use Rattle.checker.specs.declared.input.Input.{Input}
 use Rattle.checker.specs.declared.input.ProofStep.{ProofStep}
 use Rattle.checker.specs.declared.input.Action.TheVariants.{Add, Delete}
 use Rattle.checker.specs.declared.trail.Trail.{Trail}
-use Rattle.checker.specs.Input.{clause_of, step_as, step_of, formula_of, steps_of, rows_of}
-use Rattle.checker.specs.Standing.{standing}
-use Rattle.checker.specs.Forced.{Low}
+use Rattle.checker.specs.Input.{clause_of, step_as, step_of, formula_of, steps_of}
+use Rattle.checker.specs.Standing.{Rows, standing, Deleted}
 use Rattle.checker.specs.Going.{Fewer, Going}
-use Rattle.checker.proofs.InputRows.{row_step, step_at}
-use Rattle.checker.proofs.Counting.{standing_all, fewer_added, follows_fewer}
+use Rattle.checker.proofs.Counting.{standing_push, fewer_added, fewer_dropped, follows_fewer}
 
-pub going_start : (x : Input) (bs : List Bool) (t : Trail) (n : ℕ) → bs ≡ replicate n true → n ≡ length (vec_items x.formula) → Low t → t.round ≡ 0 → Going x bs t 0
+pub going_start : (x : Input) (rs : Rows) (t : Trail) → standing rs ≡ formula_of x → t.round ≡ 0 → Going x rs t 0
 unfolding Fewer
-going_start x bs t n p q l r = record {
-  long = omega (arith, ap length p, length-replicate {A = Bool} n true);
-  low = l;
+going_start x rs t p r = record {
   round = omega arith;
   clauses = formula_of x;
-  fewer = λ e. omega (arith, ap (copies e) all);
+  fewer = λ e. omega (arith, ap (copies e) p);
   rest = λ h. h;
 }
-  where
-    all : standing (rows_of x) bs ≡ formula_of x
-    all = ap (standing (rows_of x)) (p ∙ ap (λ k. replicate k true) (q ∙ sym (length-map (vec_items x.formula) clause_of))) ∙ standing_all (formula_of x) (map clause_of (vec_items x.steps))
 
-module _ (x : Input) (bs bs₁ : List Bool) (t t₁ : Trail) (j : ℕ) (s : ProofStep) (g : Going x bs t j) (h : j < length (vec_items x.steps)) (e : s ≡ get_or (vec_items x.steps) j s) where
-  pub going_add : (fl : List Bool) (cl : Clause) → fl ≡ bs → cl ≡ clause_of s → s.action ≡ Add → by_propagation (standing (rows_of x) fl) cl ≡ true → bs₁ ≡ bs ++ true ∷ [] → Low t₁ → t₁.round ≡ t.round + 1 → Going x bs₁ t₁ (j + 1)
+-- the step at a place is the first of those that are left
+pub step_at : (x : Input) (j : ℕ) (s : ProofStep) → j < length (vec_items x.steps) → s ≡ get_or (vec_items x.steps) j s → drop j (steps_of x) ≡ step_of s ∷ drop (j + 1) (steps_of x)
+step_at x j s h e =
+    let l : j < length (steps_of x) = omega (arith, length-map (vec_items x.steps) step_of) in
+    drop_more (steps_of x) j (step_of s) l ∙ ap (λ y. y ∷ drop (j + 1) (steps_of x)) (get_or-map step_of (vec_items x.steps) j s (step_of s) h ∙ sym (ap step_of e))
+
+-- the formula's clauses, one after another
+pub standing_more : (x : Input) (rs rs₁ : Rows) (i : ℕ) (b : Bor (List ℕ)) (s : ProofStep) → i < length (vec_items x.formula) → s ≡ get_or (vec_items x.formula) i s → b.now ≡ clause_of s →
+    rs₁ ≡ rs ++ Some b ∷ [] → standing rs ≡ take i (formula_of x) → standing rs₁ ≡ take (i + 1) (formula_of x)
+standing_more x rs rs₁ i b s h e u p f =
+    let l : i < length (formula_of x) = omega (arith, length-map (vec_items x.formula) clause_of) in
+    let m : get_or (formula_of x) i [] ≡ clause_of s = get_or-map clause_of (vec_items x.formula) i s [] h ∙ sym (ap clause_of e) in
+    ap standing p ∙ (standing_push rs b ∙ (ap (λ (cs : List Clause). cs ++ b.now ∷ []) f ∙ (ap (λ (c : Clause). take i (formula_of x) ++ c ∷ []) (u ∙ sym m) ∙ sym (take_more (formula_of x) i [] l))))
+
+module _ (x : Input) (rs rs₁ : Rows) (t t₁ : Trail) (j : ℕ) (s : ProofStep) (g : Going x rs t j) (h : j < length (vec_items x.steps)) (e : s ≡ get_or (vec_items x.steps) j s) where
+  pub going_add : (b : Bor (List ℕ)) (c : Clause) → b.now ≡ clause_of s → c ≡ clause_of s → s.action ≡ Add → by_propagation (standing rs) c ≡ true → rs₁ ≡ rs ++ Some b ∷ [] → t₁.round ≡ t.round + 1 → Going x rs₁ t₁ (j + 1)
   unfolding holds
-  going_add fl cl u v a b p l r = record {
-    long = omega (arith, ap length p, length-append bs (true ∷ []), g.long);
-    low = l;
+  going_add b c u v a f p r = record {
     round = omega (arith, g.round);
     clauses = clause_of s ∷ g.clauses;
-    fewer = subst (λ (v : List Bool). Fewer (rows_of x) v (clause_of s ∷ g.clauses)) (sym p) (fewer_added (rows_of x) bs (clause_of s) g.clauses row g.fewer);
+    fewer = subst (λ (v : Rows). Fewer v (clause_of s ∷ g.clauses)) (sym p) (subst (λ (y : Clause). Fewer (rs ++ Some b ∷ []) (y ∷ g.clauses)) u (fewer_added rs b g.clauses g.fewer));
     rest = λ k. g.rest (ap (holds g.clauses) (step_at x j s h e ∙ ap (λ (y : Step). y ∷ drop (j + 1) (steps_of x)) (ap (λ v. step_as v (clause_of s)) a))
-        ∙ and_from _ _ (follows_fewer (rows_of x) bs (clause_of s) g.clauses g.fewer right) k);
+        ∙ and_from _ _ (follows_fewer rs (clause_of s) g.clauses g.fewer (subst (λ (y : Clause). by_propagation (standing rs) y ≡ true) v f)) k);
   }
-    where
-      right : by_propagation (standing (rows_of x) bs) (clause_of s) ≡ true
-      right = subst (λ (y : List Bool). by_propagation (standing (rows_of x) y) (clause_of s) ≡ true) u (subst (λ (y : Clause). by_propagation (standing (rows_of x) fl) y ≡ true) v b)
 
-      place : length bs - length (vec_items x.formula) ≡ j
-      place = omega (arith, g.long)
-
-      row : get_or (rows_of x) (length bs) [] ≡ clause_of s
-      row = sym (row_step x (length bs) (length (vec_items x.formula)) s refl (omega (arith, g.long)) (omega (arith, place)) (e ∙ ap (λ i. get_or (vec_items x.steps) i s) (sym place)))
-
-  pub going_delete : (cl : Clause) → cl ≡ clause_of s → s.action ≡ Delete → length bs₁ ≡ length bs + 1 → ((cs : List Clause) → Fewer (rows_of x) bs cs → Fewer (rows_of x) bs₁ (without cl cs)) → t₁ ≡ t → Going x bs₁ t₁ (j + 1)
+  pub going_delete : (c : Clause) → c ≡ clause_of s → s.action ≡ Delete → Deleted c rs rs₁ → t₁ ≡ t → Going x rs₁ t₁ (j + 1)
   unfolding holds
-  going_delete cl v a p f r = record {
-    long = omega (arith, g.long);
-    low = subst Low (sym r) g.low;
+  going_delete c v a d r = record {
     round = omega (arith, ap (λ (u : Trail). u.round) r, g.round);
     clauses = without (clause_of s) g.clauses;
-    fewer = subst (λ (y : Clause). Fewer (rows_of x) bs₁ (without y g.clauses)) v (f g.clauses g.fewer);
+    fewer = subst (λ (y : Clause). Fewer rs₁ (without y g.clauses)) v (subst (λ (y : Rows). Fewer y (without c g.clauses)) (sym d.2) (fewer_dropped rs c d.0 d.1 g.clauses g.fewer));
     rest = λ k. g.rest (ap (holds g.clauses) (step_at x j s h e ∙ ap (λ (y : Step). y ∷ drop (j + 1) (steps_of x)) (ap (λ v. step_as v (clause_of s)) a)) ∙ k);
   }
 
-pub going_end : (x : Input) (bs : List Bool) (t : Trail) (j : ℕ) → Going x bs t j → length (vec_items x.steps) ≤ j → holds (formula_of x) (steps_of x) ≡ true
+pub going_end : (x : Input) (rs : Rows) (t : Trail) (j : ℕ) → Going x rs t j → length (vec_items x.steps) ≤ j → holds (formula_of x) (steps_of x) ≡ true
 unfolding holds
-going_end x bs t j g h = g.rest (ap (holds g.clauses) (drop_all j (steps_of x) (omega (arith, length-map (vec_items x.steps) step_of))))
+going_end x rs t j g h = g.rest (ap (holds g.clauses) (drop_all j (steps_of x) (omega (arith, length-map (vec_items x.steps) step_of))))
 
 -- THE EMPTY CLAUSE
 has_empty_more : (s : Step) (ss : List Step) → has_empty ss ≡ true → has_empty (s ∷ ss) ≡ true
@@ -74,11 +71,12 @@ unfolding has_empty
 has_empty_more (adds c) ss h = or_right (none_of c) (has_empty ss) h
 has_empty_more (deletes c) ss h = h
 
-pub has_empty_at : (ps : List ProofStep) (j : ℕ) (s : ProofStep) → j < length ps → s ≡ get_or ps j s → step_of s ≡ adds [] → has_empty (map step_of ps) ≡ true
+pub has_empty_at : (ps : List ProofStep) (j : ℕ) → j < length ps → HoldsAt (λ s. step_of s ≡ adds []) ps j → has_empty (map step_of ps) ≡ true
 unfolding has_empty none_of
-has_empty_at [] j s h e a = absurd (omega arith)
-has_empty_at (p ∷ ps) zero s h e a = ap (λ (y : Step). has_empty (y ∷ map step_of ps)) (sym (ap step_of e) ∙ a)
-has_empty_at (p ∷ ps) (suc j) s h e a = has_empty_more (step_of p) (map step_of ps) (has_empty_at ps j s (omega arith) e a)
+has_empty_at [] j h a = absurd (omega arith)
+has_empty_at (p ∷ ps) zero h a = ap (λ (y : Step). has_empty (y ∷ map step_of ps)) (a p)
+has_empty_at (p ∷ ps) (suc j) h a = has_empty_more (step_of p) (map step_of ps) (has_empty_at ps j (omega arith) a)
 
-pub empty_step : (s : ProofStep) → s.action ≡ Add → length (vec_items s.clause) ≡ 0 → step_of s ≡ adds []
-empty_step s a h = ap (λ v. step_as v (vec_items s.clause)) a ∙ ap adds (nil_from_length (vec_items s.clause) h)
+pub has_empty_some : (ps : List ProofStep) (r : Bool) (No : Type 0) → MatchBool r ((k : ℕ) × (k < length ps) × HoldsAt (λ s. step_of s ≡ adds []) ps k) No → r ≡ true → has_empty (map step_of ps) ≡ true
+has_empty_some ps true No f e = has_empty_at ps f.0 f.1 f.2
+has_empty_some ps false No f e = absurd (false≢true e)

@@ -1,9 +1,10 @@
 -- The reading of a text byte by byte, and what the reader's tests say of its lists.
-use Rattle.std.proofs.Common.{◌≡◌, ℕ, ◌+◌, ◌<◌, ◌≤◌, Bool, true, ◌&&◌, eqb, List, [], ◌∷◌, ◌++◌, map, length, get_or, drop, Some, None, vec_items, Option, sym, refl, ap, ◌∙◌, arith}
+use mathlib.Core.Bool.{false≢true}
+use Rattle.std.proofs.Common.{Result, Ok, Err, is_ok, OnOk, ◌≡◌, ℕ, ◌+◌, ◌<◌, ◌≤◌, Bool, true, eqb, List, [], ◌∷◌, ◌++◌, map, length, get_or, drop, Some, None, vec_items, Option, refl, ap, ◌∙◌, arith}
 use Rattle.std.specs.Option.{option_map}
 use Rattle.std.proofs.lemmas.Bool.{ne_eqb}
-use Rattle.std.proofs.lemmas.List.{at_drop_more, at_drop_all, map_push}
-use Rattle.formula.specs.Logic.{pick, none_of, Clause, Step}
+use Rattle.std.proofs.lemmas.List.{at_drop_more, at_drop_all}
+use Rattle.formula.specs.Logic.{pick, none_of, Clause}
 use Rattle.checker.specs.declared.input.Action.{Action}
 use Rattle.checker.specs.declared.input.Action.TheVariants.{Add, Delete}
 use Rattle.checker.specs.declared.input.ProofStep.{ProofStep}
@@ -14,9 +15,14 @@ use Rattle.checker.specs.declared.reader.Source.TheVariants.{Formula, Proof}
 use Rattle.checker.specs.declared.check.Verdict.{Verdict}
 use Rattle.checker.specs.declared.check.Verdict.TheVariants.{Verified, Fails, NoEmptyClause}
 use Rattle.checker.specs.Input.{clause_of, step_as, step_of, formula_of, steps_of}
-use Rattle.checker.specs.Reading.{Building, building, is_add, is_fresh, fed, all_fed, closed, first_state, text_read, clause_in}
+use Rattle.checker.specs.Reading.{Building, is_fresh, fed, all_fed, closed, first_state, text_read, clause_in}
 use Rattle.checker.specs.Right.{Right}
 use Rattle.checker.specs.Verified.{Says}
+
+-- what holds of a success
+pub on_ok : {T E : Type 0} (r : Result T E) (P : Type 0) → is_ok r ≡ true → OnOk r P → P
+on_ok (Ok x) P h p = p
+on_ok (Err e) P h p = absurd (false≢true h)
 
 -- TESTS
 pub empty_none : {A : Type 0} (xs : List A) (n : ℕ) → n ≡ length xs → eqb n 0 ≡ none_of xs
@@ -28,16 +34,6 @@ pub empty_map : {A B : Type 0} (f : A → B) (xs : List A) (n : ℕ) → n ≡ l
 unfolding none_of
 empty_map f [] n e = ap (λ k. eqb k 0) e
 empty_map f (x ∷ xs) n e = ne_eqb n 0 (λ z. omega arith)
-
-pub fresh_add : (p : List ℕ) (a : Action) (n : ℕ) → n ≡ length p → a ≡ Add → eqb n 0 ≡ (none_of p && is_add a)
-fresh_add p a n e f = let k = empty_none p n e in let g = ap is_add f in grind arith
-
--- A STEP IS DONE
-pub ended_step : (done done₁ : List ProofStep) (a : Action) (s : ProofStep) (p p₁ : List ℕ) → done₁ ≡ done ++ s ∷ [] → step_of s ≡ step_as a p → p₁ ≡ [] →
-    Some (building (map step_of done ++ step_as a p ∷ []) Add []) ≡ Some (building (map step_of done₁) Add p₁)
-ended_step done done₁ a s p p₁ e f g =
-    let q : map step_of done₁ ≡ map step_of done ++ step_as a p ∷ [] = ap (map step_of) e ∙ (map_push step_of done s ∙ ap (λ (x : Step). map step_of done ++ x ∷ []) f) in
-    ap (λ (x : List Step). Some (building x Add [])) (sym q) ∙ ap (λ (x : List ℕ). Some (building (map step_of done₁) Add x)) (sym g)
 
 -- BYTE BY BYTE
 pub fed_more : (k : Source) (s s₁ : Lexer × Building) (text : List ℕ) (i : ℕ) → i < length text → fed k s (get_or text i 0) ≡ Some s₁ →

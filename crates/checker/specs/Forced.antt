@@ -1,6 +1,6 @@
 -- What the literals of the trail are known by: each is forced, in every settled row in which the clause that is
 -- checked is false. So neither the order of the trail nor its reasons have to be kept.
-use Rattle.std.specs.Prelude.{◌≡◌, ℕ, ◌≤◌, Bool, true, List, vec_items, ◌==◌, slice_index}
+use Rattle.std.specs.Prelude.{◌≡◌, ℕ, Bool, true, List, vec_items, ◌==◌, slice_index}
 use Rattle.formula.specs.Logic.{Clause, has, other, by_propagation}
 use Rattle.formula.proofs.Rows.{In}
 use Rattle.formula.proofs.Soundness.{Settled}
@@ -17,20 +17,14 @@ Forced cs c l = (us : List ℕ) → ((k : ℕ) → In k c → In (other k) us) �
 unfoldable pub AllForced : List Clause → Clause → Trail → Type 0
 AllForced cs c t = (l : ℕ) → is_true t l ≡ true → Forced cs c l
 
--- no stamp is above the round
-unfoldable pub Low : Trail → Type 0
-Low t = (l : ℕ) → slice_index (vec_items t.stamps) l ≤ t.round
-
 -- what happens to the trail in a round
 pub record Grows (cs : List Clause) (t t₁ : Trail) : Type 0 where
   pub same : t₁.round ≡ t.round
-  pub low : Low t → Low t₁
   pub sound : (c : Clause) → AllForced cs c t → AllForced cs c t₁
 
 -- a clause is taken to be false, and if that does not go together it follows
 pub record Assumed (c : Clause) (t t₁ : Trail) (b : Bool) : Type 0 where
   pub same : t₁.round ≡ t.round
-  pub low : Low t₁
   pub sound : (cs : List Clause) → AllForced cs c t₁
   pub clash : b ≡ true → (cs : List Clause) → by_propagation cs c ≡ true
 

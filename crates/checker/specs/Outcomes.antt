@@ -4,7 +4,7 @@ use Rattle.formula.specs.Logic.{Clause, by_propagation}
 use Rattle.checker.specs.declared.trail.Trail.{Trail}
 use Rattle.checker.specs.declared.propagate.Outcome.{Outcome}
 use Rattle.checker.specs.declared.propagate.Outcome.TheVariants.{Conflict, Gone, Stays, Moves}
-use Rattle.checker.specs.Forced.{Low, Grows, Refuted}
+use Rattle.checker.specs.Forced.{Grows, Refuted}
 
 abbrev pub Clash : List Clause → Trail → Outcome → Type 0
 Clash cs t Conflict = Refuted cs t
@@ -23,6 +23,5 @@ pub record Propagated (cs : List Clause) (t t₁ : Trail) (b : Bool) : Type 0 wh
 
 -- what a round comes to
 pub record Answered (cs : List Clause) (c : Clause) (t t₁ : Trail) (b : Bool) : Type 0 where
-  pub low : Low t₁
   pub round : t₁.round ≡ t.round + 1
   pub right : b ≡ true → by_propagation cs c ≡ true

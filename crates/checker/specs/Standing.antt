@@ -1,21 +1,34 @@
--- The clauses that stand: those of a list of rows whose flag is set.
-use Rattle.std.specs.Prelude.{◌≡◌, ℕ, Bool, true, false, ◌&&◌, List, [], ◌∷◌, Some, None, Option, MatchOption, slice_index_or, slice_set}
-use Rattle.formula.specs.Logic.{pick, same_row, Clause}
+-- The clauses that stand: the rows of a list that are still there.
+use Rattle.std.specs.Prelude.{◌≡◌, ℕ, Bool, true, false, List, [], ◌∷◌, Some, None, Option, MatchOption, slice_index_or, slice_set}
+use Rattle.std.specs.Borrow.{Bor}
+use Rattle.formula.specs.Logic.{same_row, Clause}
 
-unfoldable pub standing : List Clause → List Bool → List Clause
-standing [] bs = []
-standing (r ∷ rs) [] = []
-standing (r ∷ rs) (b ∷ bs) = pick b (r ∷ standing rs bs) (standing rs bs)
+-- by number, the literals of a clause, or none once it is deleted
+abbrev pub Rows : Type 0
+Rows = List (Option (Bor (List ℕ)))
 
--- the flag that was found is taken back
-abbrev pub dropped : List Bool → Option ℕ → List Bool
-dropped bs None = bs
-dropped bs (Some i) = slice_set bs i false
+unfoldable pub standing : Rows → List Clause
+standing [] = []
+standing (None ∷ rs) = standing rs
+standing (Some r ∷ rs) = r.now ∷ standing rs
 
--- whether a clause stands that has just these literals
-abbrev pub copy_at : List Clause → List Bool → Clause → ℕ → Bool
-copy_at rows active c i = slice_index_or active i false && same_row c (slice_index_or rows i [])
+-- one that was found is taken away
+abbrev pub dropped : Rows → Option ℕ → Rows
+dropped rs None = rs
+dropped rs (Some i) = slice_set rs i None
+
+-- whether a row is there and has just these literals
+abbrev pub is_copy : Clause → Option (Bor (List ℕ)) → Bool
+is_copy c None = false
+is_copy c (Some r) = same_row c r.now
+
+abbrev pub copy_at : Rows → Clause → ℕ → Bool
+copy_at rs c i = is_copy c (slice_index_or rs i None)
 
 -- one that was found, or that there is none
-abbrev pub Found : List Clause → List Bool → Clause → Option ℕ → Type 0
-Found rows active c o = MatchOption o ((i : ℕ) → copy_at rows active c i ≡ false) (λ i. copy_at rows active c i ≡ true)
+abbrev pub Found : Rows → Clause → Option ℕ → Type 0
+Found rs c o = MatchOption o ((i : ℕ) → copy_at rs c i ≡ false) (λ i. copy_at rs c i ≡ true)
+
+-- one clause with these literals no longer stands, if one does
+abbrev pub Deleted : Clause → Rows → Rows → Type 0
+Deleted c rs rs₁ = (o : Option ℕ) × Found rs c o × (rs₁ ≡ dropped rs o)

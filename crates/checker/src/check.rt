@@ -1,20 +1,17 @@
 // The check of a proof, step by step. `check_steps` promises of `Verified` that all steps hold, as the
 // definition has it, and that one of them adds the empty clause.
-ghost use Rattle.std.specs.Prelude.{◌≡◌, ◌+◌, ◌<◌, ◌≤◌, true, false, List, [], ◌∷◌, ◌++◌, length, IfOk, vec_len, OnOk};
-ghost use Rattle.formula.specs.Logic.{Clause, adds, without, has_empty};
-ghost use Rattle.checker.specs.Input.{step_of, formula_of, steps_of, rows_of};
-ghost use Rattle.checker.specs.Going.{Fewer, Going};
-ghost use Rattle.checker.specs.Standing.{dropped};
+ghost use Rattle.std.specs.Prelude.{◌≡◌, ◌+◌, ◌^◌, ◌<◌, true, [], ◌∷◌, ◌++◌, Some, IfOk, OnOk};
+ghost use Rattle.formula.specs.Logic.{adds, has_empty};
+ghost use Rattle.checker.specs.Input.{step_of, formula_of, steps_of};
+ghost use Rattle.checker.specs.Going.{Going, GoesOn};
 ghost use Rattle.checker.specs.Right.{Right};
 
-use crate::clauses::Index;
+use crate::clauses::Clauses;
 use crate::input::{Action, Input, ProofStep};
-use crate::propagate::follows;
-use crate::trail::Trail;
-use crate::watches::Watches;
+use crate::propagate::Propagator;
 use std::alloc::{AllocError, Global};
 
-#[derive(Clone, Copy)]
+#[derive(Clone, Copy, PartialEq, Eq)]
 pub enum Verdict {
     Verified,
     // The step that begins in this line does not follow.
@@ -22,126 +19,74 @@ pub enum Verdict {
     NoEmptyClause,
 }
 
+// The clauses that stand after the steps so far, and what finds out whether the next one follows.
 #[derive(Drop)]
-struct Checker {
-    active: Vec<bool>,
-    trail: Trail,
-    watches: Watches,
-    index: Index,
+struct Checker<'a> {
+    clauses: Clauses<'a>,
+    propagator: Propagator,
 }
 
 // Room for the literals of all clauses.
 fn literal_count(steps: &[ProofStep]) -> usize {
-    let mut count: u64 = 2;
-    for step in steps {
-        for lit in step.clause.as_slice() {
-            count = count.max(lit.saturating_add(2));
-        }
-    }
-    count as usize
+    let most = steps
+        .iter()
+        .flat_map(|step| step.clause.iter())
+        .copied()
+        .max();
+    most.unwrap_or(0).saturating_add(2) as usize
 }
 
 fn is_empty_clause(step: &ProofStep) -> bool
     ensures { result ≡ true → step_of step.now ≡ adds [] }
 {
-    match step.action {
-        Action::Add => step.clause.is_empty(),
-        Action::Delete => false,
-    }
+    step.action == Action::Add && step.clause.is_empty()
 }
 
 // Whether the empty clause is added.
 fn has_empty_clause(input: &Input) -> bool
     ensures { result ≡ true → has_empty (steps_of input.now) ≡ true }
 {
-    for step in input.steps.as_slice() {
-        if is_empty_clause(step) {
-            return true;
-        }
-    }
-    false
+    input.steps.iter().any(is_empty_clause)
 }
 
-// The clause, if there is one, is no longer active.
-fn clear_flag(active: &mut [bool], found: Option<usize>)
-    ensures { active.new ≡ dropped active.old found }
-{
-    if let Some(id) = found {
-        if id < active.len() {
-            active[id] = false;
-        }
-    }
-}
-
-impl Checker {
-    // The formula's clauses are active.
-    fn new(heap: Global, input: &Input) -> Result<Checker, AllocError>
-        ensures { IfOk result (λ k. Going input.now k.active.items k.trail 0) }
+impl<'a> Checker<'a> {
+    // The formula's clauses stand.
+    fn new(heap: Global, input: &'a Input) -> Result<Checker<'a>, AllocError>
+        ensures { IfOk result (λ k. Going input.now k.clauses.rows.items k.propagator.trail 0) }
     {
         let count = literal_count(&input.formula).max(literal_count(&input.steps));
-        let active = vec![in heap; true; input.formula.len()]?;
-        let trail = Trail::new(heap, count)?;
-        let mut watches = Watches::new(heap, count)?;
-        let mut index = Index::new(heap, input.formula.len() | input.steps.len())?;
-        for step in input.formula.as_slice() {
-            watches.push(&step.clause)?;
-            index.push(&step.clause)?;
+        let mut checker = Checker {
+            clauses: Clauses::new(heap),
+            propagator: Propagator::new(heap, count)?,
+        };
+        for step in &input.formula {
+            checker.add(step.clause.as_slice())?;
         }
-        Ok(Checker {
-            active,
-            trail,
-            watches,
-            index,
-        })
+        Ok(checker)
     }
 
-    fn add(&mut self, clause: &[u64]) -> Result<(), AllocError>
-        ensures active { OnOk result (self.new.active.items ≡ self.old.active.items ++ true ∷ []) }
-        ensures trail { self.new.trail ≡ self.old.trail }
+    fn add(&mut self, clause: &'a [u64]) -> Result<(), AllocError>
+        ensures rows { OnOk result (self.new.clauses.rows.items ≡ self.old.clauses.rows.items ++ Some clause.entry ∷ []) }
+        ensures trail { self.new.propagator.trail ≡ self.old.propagator.trail }
     {
-        self.watches.push(clause)?;
-        self.index.push(clause)?;
-        self.active.push(true)?;
-        Ok(())
+        self.clauses.push(clause)?;
+        self.propagator.push(clause)
     }
 
-    // One active clause with these literals is no longer active.
-    fn delete(&mut self, input: &Input, clause: &[u64]) -> Result<(), AllocError>
-        requires { length self.old.active.items ≤ length (rows_of input.now) }
-        ensures long { OnOk result (length self.new.active.items ≡ length self.old.active.items + 1) }
-        ensures fewer { OnOk result ((cs : List Clause) → Fewer (rows_of input.now) self.old.active.items cs → Fewer (rows_of input.now) self.new.active.items (without clause.now cs)) }
-        ensures trail { self.new.trail ≡ self.old.trail }
+    // The next step; false if it does not follow.
+    fn take_step(&mut self, step: &'a ProofStep) -> Result<bool, AllocError>
+        requires { self.old.propagator.trail.round + 1 < 2 ^ 64 }
+        ensures { IfOk result (λ b. b ≡ true → GoesOn step.now self.old.clauses.rows.items self.old.propagator.trail self.new.clauses.rows.items self.new.propagator.trail) }
     {
-        self.watches.skip()?;
-        self.index.push(clause)?;
-        let found = self.index.find_copy(input, &self.active, clause);
-        clear_flag(&mut self.active, found);
-        self.active.push(false)?;
-        Ok(())
-    }
-
-    // The step at a place; false if it does not follow.
-    fn take_step(&mut self, input: &Input, place: usize) -> Result<bool, AllocError>
-        requires place_in_bounds { place < vec_len input.now.steps }
-        requires going { Going input.now self.old.active.items self.old.trail place }
-        ensures { IfOk result (λ b. b ≡ true → Going input.now self.new.active.items self.new.trail (place + 1)) }
-    {
-        let step = &input.steps[place];
         let clause = step.clause.as_slice();
         match step.action {
             Action::Add => {
-                if !follows(
-                    input,
-                    &self.active,
-                    &mut self.trail,
-                    &mut self.watches,
-                    clause,
-                )? {
+                if !self.propagator.follows(&self.clauses, clause)? {
                     return Ok(false);
                 }
                 self.add(clause)?;
             }
-            Action::Delete => self.delete(input, clause)?,
+            Action::Delete => self.clauses.delete(clause),
         }
         Ok(true)
     }
@@ -152,9 +97,9 @@ pub fn check_steps(heap: Global, input: &Input) -> Result<Verdict, AllocError>
     ensures { IfOk result (Right (formula_of input.now) (steps_of input.now)) }
 {
     let mut checker = Checker::new(heap, input)?;
-    for place in 0..input.steps.len() {
-        if !checker.take_step(input, place)? {
-            return Ok(Verdict::Fails(input.steps[place].line));
+    for step in &input.steps {
+        if !checker.take_step(step)? {
+            return Ok(Verdict::Fails(step.line));
         }
     }
     if has_empty_clause(input) {

@@ -1,36 +1,25 @@
-// Clauses that are active, and the search for one with given literals: `find_copy` promises an active clause
+// Clauses that stand, and the search for one with given literals: `find_copy` promises one that stands
 // with the same literals, or that there is none.
-ghost use Rattle.std.specs.Prelude.{◌≡◌, ◌<◌, true, false, ◌&&◌, IfSome, slice_index_or};
+ghost use Rattle.std.specs.Prelude.{◌≡◌, true, ◌∷◌, ◌++◌, [], Some, None, IfSome, OnOk, slice_index_or};
 ghost use Rattle.formula.specs.Logic.{every, has, same_row};
-ghost use Rattle.checker.specs.Input.{rows_of};
-ghost use Rattle.checker.specs.Standing.{copy_at, Found};
+ghost use Rattle.checker.specs.Standing.{copy_at, Found, Deleted};
 
-use crate::input::Input;
 use formula::clause::contains;
 use std::alloc::{AllocError, Global};
+use std::collections::HashMap;
 
-// Clauses by a hash of their literals: chains of numbers, each one more than that of a clause, ended by 0.
 #[derive(Drop)]
-pub struct Index {
-    heads: Vec<usize>,
-    next: Vec<usize>,
-}
-
-pub fn is_active(active: &[bool], id: usize) -> bool
-    ensures { result ≡ slice_index_or active.now id false }
-{
-    if id < active.len() { active[id] } else { false }
+pub struct Clauses<'a> {
+    // The literals of each clause by its number, or none once it is deleted.
+    rows: Vec<Option<&'a [u64]>>,
+    // The clauses by a hash of their literals. This is there for speed, and nothing rests on it.
+    by_hash: HashMap<u64, Vec<usize>>,
 }
 
 fn is_within(clause: &[u64], other: &[u64]) -> bool
     ensures { result ≡ every (has other.now) clause.now }
 {
-    for lit in clause {
-        if !contains(other, *lit) {
-            return false;
-        }
-    }
-    true
+    clause.iter().all(|lit| contains(other, *lit))
 }
 
 fn has_same_literals(clause: &[u64], other: &[u64]) -> bool
@@ -39,88 +28,82 @@ fn has_same_literals(clause: &[u64], other: &[u64]) -> bool
     is_within(clause, other) && is_within(other, clause)
 }
 
-fn is_copy(input: &Input, active: &[bool], clause: &[u64], id: usize) -> bool
-    ensures { result ≡ copy_at (rows_of input.now) active.now clause.now id }
-{
-    is_active(active, id) && has_same_literals(clause, input.row(id))
-}
-
-// An active clause with these literals, by a look at each.
-fn scan(input: &Input, active: &[bool], clause: &[u64]) -> Option<usize>
-    ensures { Found (rows_of input.now) active.now clause.now result }
-{
-    for id in 0..active.len() {
-        if is_copy(input, active, clause, id) {
-            return Some(id);
-        }
-    }
-    None
-}
-
+// The same for each order of the literals.
 fn hash(clause: &[u64]) -> u64 {
-    let mut sum: u64 = 0;
-    for lit in clause {
+    clause.iter().fold(0, |sum: u64, lit| {
         let x = lit.wrapping_mul(0x9e37_79b9_7f4a_7c15);
-        sum = sum.wrapping_add(x ^ (x >> 29));
-    }
-    sum
+        sum.wrapping_add(x ^ (x >> 29))
+    })
 }
 
-impl Index {
-    // An index of no clauses, made for so many.
-    pub fn new(heap: Global, count: usize) -> Result<Index, AllocError> {
-        let heads = vec![in heap; 0; count | 1]?;
-        Ok(Index {
-            heads,
-            next: Vec::new(heap),
-        })
+impl<'a> Clauses<'a> {
+    pub fn new(heap: Global) -> Clauses<'a>
+        ensures { result.rows.items ≡ [] }
+    {
+        Clauses {
+            rows: Vec::new(heap),
+            by_hash: HashMap::new(heap),
+        }
     }
 
-    fn bucket(&self, clause: &[u64]) -> usize {
-        let count = self.heads.len();
-        if count == 0 {
-            0
-        } else {
-            hash(clause) as usize % count
-        }
+    // The literals of a clause, if it stands.
+    pub fn get(&self, id: usize) -> Option<&'a [u64]>
+        ensures { result ≡ slice_index_or self.now.rows.items id None }
+    {
+        self.rows.get(id).copied().flatten()
     }
 
     // The clause that comes next, by number.
-    pub fn push(&mut self, clause: &[u64]) -> Result<(), AllocError> {
-        let bucket = self.bucket(clause);
-        let id = self.next.len();
-        if bucket < self.heads.len() {
-            self.next.push(self.heads[bucket])?;
-            self.heads[bucket] = id.wrapping_add(1);
-        } else {
-            self.next.push(0)?;
-        }
+    pub fn push(&mut self, clause: &'a [u64]) -> Result<(), AllocError>
+        ensures { OnOk result (self.new.rows.items ≡ self.old.rows.items ++ Some clause.entry ∷ []) }
+    {
+        let id = self.rows.len();
+        self.by_hash.entry(hash(clause))?.or_default().push(id)?;
+        self.rows.push(Some(clause))?;
         Ok(())
     }
 
-    fn lookup(&self, input: &Input, active: &[bool], clause: &[u64]) -> Option<usize>
-        ensures { IfSome result (λ i. copy_at (rows_of input.now) active.now clause.now i ≡ true) }
+    fn is_copy(&self, clause: &[u64], id: usize) -> bool
+        ensures { result ≡ copy_at self.now.rows.items clause.now id }
     {
-        let mut link = self.heads.get(self.bucket(clause)).copied().unwrap_or(0);
-        for _i in 0..self.next.len() {
-            if link == 0 {
-                return None;
-            }
-            if is_copy(input, active, clause, link - 1) {
-                return Some(link - 1);
-            }
-            link = self.next.get(link - 1).copied().unwrap_or(0);
-        }
-        None
+        self.get(id)
+            .is_some_and(|row| has_same_literals(clause, row))
     }
 
-    // An active clause with these literals, by the index, and if that has none by a look at each.
-    pub fn find_copy(&self, input: &Input, active: &[bool], clause: &[u64]) -> Option<usize>
-        ensures { Found (rows_of input.now) active.now clause.now result }
+    // By a look at each, so that nothing rests on the hashes.
+    fn scan(&self, clause: &[u64]) -> Option<usize>
+        ensures { Found self.now.rows.items clause.now result }
     {
-        match self.lookup(input, active, clause) {
+        (0..self.rows.len()).find(|id| self.is_copy(clause, *id))
+    }
+
+    // By the hash, the latest first.
+    fn lookup(&self, clause: &[u64]) -> Option<usize>
+        ensures { IfSome result (λ i. copy_at self.now.rows.items clause.now i ≡ true) }
+    {
+        let ids = self.by_hash.get(&hash(clause))?;
+        ids.iter()
+            .rev()
+            .copied()
+            .find(|id| self.is_copy(clause, *id))
+    }
+
+    // One that stands with these literals, by the hash, and if that has none by a look at each.
+    fn find_copy(&self, clause: &[u64]) -> Option<usize>
+        ensures { Found self.now.rows.items clause.now result }
+    {
+        match self.lookup(clause) {
             Some(id) => Some(id),
-            None => scan(input, active, clause),
+            None => self.scan(clause),
+        }
+    }
+
+    // One clause with these literals no longer stands, if one does.
+    pub fn delete(&mut self, clause: &[u64])
+        ensures { Deleted clause.now self.old.rows.items self.new.rows.items }
+    {
+        if let Some(id) = self.find_copy(clause) {
+            self.rows[id] = None;
         }
     }
 }

@@ -1,9 +1,9 @@
-// A formula and the steps of a proof, as they were read. Clauses are counted through: first those of the
-// formula, then those of the steps; `row` promises the literals of each.
+// A formula and the steps of a proof, as they were read. `row` promises the literals of each clause, counted through
+// from those of the formula to those of the steps; the check has numbers of its own.
 ghost use Rattle.std.specs.Prelude.{◌≡◌, [], slice_index_or};
 ghost use Rattle.checker.specs.Input.{rows_of};
 
-#[derive(Clone, Copy)]
+#[derive(Clone, Copy, PartialEq, Eq)]
 pub enum Action {
     Add,
     Delete,
@@ -28,13 +28,10 @@ impl Input {
     pub fn row(&self, id: usize) -> &[u64]
         ensures { result.now ≡ slice_index_or (rows_of self.now) id [] }
     {
-        let count = self.formula.len();
-        if id < count {
-            return self.formula[id].clause.as_slice();
-        }
-        if id - count < self.steps.len() {
-            return self.steps[id - count].clause.as_slice();
-        }
-        &[]
+        let step = match id.checked_sub(self.formula.len()) {
+            Some(place) => self.steps.get(place),
+            None => self.formula.get(id),
+        };
+        step.map_or(&[], |step| step.clause.as_slice())
     }
 }

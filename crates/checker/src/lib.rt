@@ -1,5 +1,5 @@
 // A checker of proofs by unit propagation: what it calls verified holds by the definitions of `formula`.
-// A "yes" rests on the contract of `verify::verify`; watch lists and the index are there for speed and nothing else.
+// A "yes" rests on the contract of `verify::verify`; watch lists and hashes are there for speed and nothing else.
 #![tactic(auto)]
 
 pub mod check;

@@ -1,24 +1,21 @@
-// Unit propagation over the active clauses. `follows` promises of a yes that the clause follows by propagation,
-// as the definition has it, whatever the watch lists hold.
-ghost use Rattle.std.specs.Prelude.{◌+◌, ◌<◌, ◌≤◌, true, false, length, IfOk};
-ghost use Rattle.checker.specs.Input.{rows_of};
+// Unit propagation over the clauses that stand. `follows` promises of a yes that the clause follows by
+// propagation, as the definition has it, whatever the watch lists hold.
+ghost use Rattle.std.specs.Prelude.{◌≡◌, ◌+◌, ◌^◌, ◌<◌, IfOk};
 ghost use Rattle.checker.specs.Standing.{standing};
-ghost use Rattle.checker.specs.Forced.{Low};
 ghost use Rattle.checker.specs.Outcomes.{Visited, Propagated, Answered};
 
-use crate::clauses::is_active;
-use crate::input::Input;
+use crate::clauses::Clauses;
 use crate::trail::Trail;
 use crate::watches::Watches;
 use formula::literal::opposite;
-use std::alloc::AllocError;
+use std::alloc::{AllocError, Global};
 
 // What a look at a clause comes to.
 #[derive(Clone, Copy)]
 pub enum Outcome {
     // All its literals are false.
     Conflict,
-    // It is not active.
+    // It does not stand.
     Gone,
     // It keeps its watches.
     Stays,
@@ -26,24 +23,27 @@ pub enum Outcome {
     Moves(u64),
 }
 
+#[derive(Drop)]
+pub struct Propagator {
+    trail: Trail,
+    watches: Watches,
+}
+
 // A look at a clause of which one watched literal is false and the other is `second`.
 fn visit(
-    input: &Input,
-    active: &[bool],
+    clauses: &Clauses<'_>,
     trail: &mut Trail,
     id: usize,
     second: u64,
 ) -> Result<Outcome, AllocError>
-    requires { length active.now ≤ length (rows_of input.now) }
-    ensures { IfOk result (λ o. Visited (standing (rows_of input.now) active.now) trail.old trail.new o) }
+    ensures { IfOk result (λ o. Visited (standing clauses.now.rows.items) trail.old trail.new o) }
 {
-    if !is_active(active, id) {
+    let Some(clause) = clauses.get(id) else {
         return Ok(Outcome::Gone);
-    }
+    };
     if trail.is_true(second) {
         return Ok(Outcome::Stays);
     }
-    let clause = input.row(id);
     if clause.is_empty() {
         return Ok(Outcome::Conflict);
     }
@@ -57,92 +57,88 @@ fn visit(
     Ok(Outcome::Stays)
 }
 
-// A look at each clause that watches a literal that is false; true if one is in conflict.
-fn visit_watching(
-    input: &Input,
-    active: &[bool],
-    trail: &mut Trail,
-    watches: &mut Watches,
-    lit: u64,
-) -> Result<bool, AllocError>
-    requires { length active.now ≤ length (rows_of input.now) }
-    ensures { IfOk result (λ b. Propagated (standing (rows_of input.now) active.now) trail.old trail.new b) }
-{
-    let mut place: usize = 0;
-    for _i in 0..watches.count(lit) {
-        let Some(id) = watches.at(lit, place) else {
-            return Ok(false);
-        };
-        match visit(input, active, trail, id, watches.other(id, lit))? {
-            Outcome::Conflict => return Ok(true),
-            Outcome::Gone => watches.remove(lit, place),
-            Outcome::Stays => place += 1,
-            Outcome::Moves(to) => watches.move_to(id, lit, place, to)?,
-        }
+impl Propagator {
+    // No clauses, and room for so many literals.
+    pub fn new(heap: Global, count: usize) -> Result<Propagator, AllocError>
+        ensures { IfOk result (λ p. p.trail.round ≡ 0) }
+    {
+        let trail = Trail::new(heap, count)?;
+        let watches = Watches::new(heap, count)?;
+        Ok(Propagator { trail, watches })
     }
-    Ok(false)
-}
 
-// A look at each clause with fewer than two different literals.
-fn visit_short(
-    input: &Input,
-    active: &[bool],
-    trail: &mut Trail,
-    watches: &Watches,
-) -> Result<bool, AllocError>
-    requires { length active.now ≤ length (rows_of input.now) }
-    ensures { IfOk result (λ b. Propagated (standing (rows_of input.now) active.now) trail.old trail.new b) }
-{
-    for place in 0..watches.short_count() {
-        let id = watches.short_at(place).unwrap_or(0);
-        let first = input.row(id).first().copied().unwrap_or(0);
-        if let Outcome::Conflict = visit(input, active, trail, id, first)? {
-            return Ok(true);
-        }
+    // The clause that comes next, by number.
+    pub fn push(&mut self, clause: &[u64]) -> Result<(), AllocError>
+        ensures { self.new.trail ≡ self.old.trail }
+    {
+        self.watches.push(clause)
     }
-    Ok(false)
-}
 
-// Each literal of the queue in turn, as many as there are at most.
-fn propagate(
-    input: &Input,
-    active: &[bool],
-    trail: &mut Trail,
-    watches: &mut Watches,
-) -> Result<bool, AllocError>
-    requires { length active.now ≤ length (rows_of input.now) }
-    ensures { IfOk result (λ b. Propagated (standing (rows_of input.now) active.now) trail.old trail.new b) }
-{
-    for _i in 0..trail.count() {
-        let Some(lit) = trail.next() else {
-            return Ok(false);
-        };
-        if visit_watching(input, active, trail, watches, opposite(lit))? {
-            return Ok(true);
+    // A look at each clause that watches a literal that is false; true if one is in conflict.
+    // It goes by places, since clauses leave the list on the way, and takes as many turns as there were clauses, so
+    // that it ends.
+    fn visit_watching(&mut self, clauses: &Clauses<'_>, lit: u64) -> Result<bool, AllocError>
+        ensures { IfOk result (λ b. Propagated (standing clauses.now.rows.items) self.old.trail self.new.trail b) }
+    {
+        let mut place: usize = 0;
+        for _i in 0..self.watches.watching(lit).len() {
+            let Some(id) = self.watches.watching(lit).get(place).copied() else {
+                return Ok(false);
+            };
+            let second = self.watches.other(id, lit);
+            match visit(clauses, &mut self.trail, id, second)? {
+                Outcome::Conflict => return Ok(true),
+                Outcome::Gone => self.watches.remove(lit, place),
+                Outcome::Stays => place += 1,
+                Outcome::Moves(to) => self.watches.move_to(id, lit, place, to)?,
+            }
         }
+        Ok(false)
     }
-    Ok(false)
-}
 
-// Whether the clause follows by propagation, in a new round.
-pub fn follows(
-    input: &Input,
-    active: &[bool],
-    trail: &mut Trail,
-    watches: &mut Watches,
-    clause: &[u64],
-) -> Result<bool, AllocError>
-    requires active_in_bounds { length active.now ≤ length (rows_of input.now) }
-    requires low { (Low trail.old) × (trail.old.round + 1 < 18446744073709551616) }
-    ensures { IfOk result (λ b. Answered (standing (rows_of input.now) active.now) clause.now trail.old trail.new b) }
-{
-    trail.begin();
-    if trail.assume_false(clause)? {
-        return Ok(true);
+    // A look at each clause with fewer than two different literals; true if one is in conflict.
+    fn visit_short(&mut self, clauses: &Clauses<'_>) -> Result<bool, AllocError>
+        ensures { IfOk result (λ b. Propagated (standing clauses.now.rows.items) self.old.trail self.new.trail b) }
+    {
+        for id in self.watches.short() {
+            // 0 stands for no literal, though it is one: while it is true, an empty clause is passed over.
+            let first = clauses
+                .get(*id)
+                .and_then(|clause| clause.first())
+                .copied()
+                .unwrap_or(0);
+            if let Outcome::Conflict = visit(clauses, &mut self.trail, *id, first)? {
+                return Ok(true);
+            }
+        }
+        Ok(false)
     }
-    if visit_short(input, active, trail, watches)? {
-        return Ok(true);
+
+    // Each literal of the queue in turn; true if a clause is in conflict. The queue grows on the way,
+    // and that it ends is seen from the count: there are no more literals than that.
+    fn propagate(&mut self, clauses: &Clauses<'_>) -> Result<bool, AllocError>
+        ensures { IfOk result (λ b. Propagated (standing clauses.now.rows.items) self.old.trail self.new.trail b) }
+    {
+        for _i in 0..self.trail.count() {
+            let Some(lit) = self.trail.next() else {
+                return Ok(false);
+            };
+            if self.visit_watching(clauses, opposite(lit))? {
+                return Ok(true);
+            }
+        }
+        Ok(false)
     }
-    let found = propagate(input, active, trail, watches)?;
-    Ok(found)
+
+    // Whether the clause follows by propagation, in a new round.
+    pub fn follows(&mut self, clauses: &Clauses<'_>, clause: &[u64]) -> Result<bool, AllocError>
+        requires { self.old.trail.round + 1 < 2 ^ 64 }
+        ensures { IfOk result (λ b. Answered (standing clauses.now.rows.items) clause.now self.old.trail self.new.trail b) }
+    {
+        self.trail.begin();
+        let found = self.trail.assume_false(clause)?
+            || self.visit_short(clauses)?
+            || self.propagate(clauses)?;
+        Ok(found)
+    }
 }

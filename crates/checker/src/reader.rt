@@ -1,9 +1,8 @@
 // The reading of a formula or a proof. `read` promises that the steps that it returns are just those that the
 // definition reads from the bytes.
-ghost use Rattle.std.specs.Prelude.{◌≡◌, true, false, not, ◌&&◌, map, IfOk, Some, OnOk};
-ghost use Rattle.formula.specs.Logic.{none_of};
+ghost use Rattle.std.specs.Prelude.{◌≡◌, true, map, IfOk, Some, OnOk, is_some};
 ghost use Rattle.checker.specs.Input.{step_of};
-ghost use Rattle.checker.specs.Reading.{is_proof, is_fresh, taken, fed, text_read, first_state};
+ghost use Rattle.checker.specs.Reading.{is_fresh, taken, fed, text_read, first_state};
 ghost use Rattle.checker.specs.Views.{building_of, state_of};
 
 use crate::input::{Action, ProofStep};
@@ -12,20 +11,30 @@ use std::alloc::{AllocError, Global};
 use std::mem;
 
 // What is read.
-#[derive(Clone, Copy)]
+#[derive(Clone, Copy, PartialEq, Eq)]
 pub enum Source {
     Formula,
     Proof,
 }
 
 // Why there is no verdict.
-#[derive(Clone, Copy)]
+#[derive(Clone, Copy, PartialEq, Eq)]
 pub enum Problem {
     // A byte can't stand in this line.
-    BadByte(Source, u64, u8),
+    BadByte { source: Source, line: u64, byte: u8 },
     // The text ends within a clause, a number or the header.
-    Unended(Source, u64),
+    Unended { source: Source, line: u64 },
     OutOfMemory,
+}
+
+impl Problem {
+    // At the text's end a line's end that can't stand there says that the text is not done.
+    fn at_end(self) -> Problem {
+        match self {
+            Problem::BadByte { source, line, .. } => Problem::Unended { source, line },
+            other => other,
+        }
+    }
 }
 
 impl From<AllocError> for Problem {
@@ -51,29 +60,25 @@ impl Reader {
         ensures source { result.source ≡ source }
         ensures state { state_of result ≡ first_state }
     {
-        let steps = Vec::new(heap);
-        let part = Vec::new(heap);
         Reader {
             source,
             lexer: Lexer::LineStart,
-            steps,
+            steps: Vec::new(heap),
             action: Action::Add,
-            part,
+            part: Vec::new(heap),
             line: 1,
             start: 1,
         }
     }
 
+    // Whether no step has begun.
     fn is_fresh(&self) -> bool
         ensures { result ≡ is_fresh (building_of self.now) }
     {
-        match self.action {
-            Action::Add => self.part.is_empty(),
-            Action::Delete => false,
-        }
+        self.action == Action::Add && self.part.is_empty()
     }
 
-    // A step begins in this line, if none has begun.
+    // As long as no step has begun, the next one is taken to begin in this line.
     fn note_line(&mut self)
         ensures { (self.new.source ≡ self.old.source) × (state_of self.new ≡ state_of self.old) }
     {
@@ -82,12 +87,12 @@ impl Reader {
         }
     }
 
-    fn end_step(&mut self, heap: Global) -> Result<(), AllocError>
+    fn end_step(&mut self) -> Result<(), AllocError>
         ensures source { self.new.source ≡ self.old.source }
         ensures lexer { self.new.lexer ≡ self.old.lexer }
         ensures after { OnOk result (taken self.old.source (building_of self.old) Token.Zero ≡ Some (building_of self.new)) }
     {
-        let clause = mem::replace(&mut self.part, Vec::new(heap));
+        let clause = mem::try_take(&mut self.part)?;
         self.steps.push(ProofStep {
             line: self.start,
             action: self.action,
@@ -97,73 +102,54 @@ impl Reader {
         Ok(())
     }
 
-    // What a token does; false if it can't stand there.
-    fn take(&mut self, heap: Global, token: Token) -> Result<bool, AllocError>
-        ensures source { self.new.source ≡ self.old.source }
-        ensures after { IfOk result (λ b. b ≡ true → taken self.old.source (building_of self.old) token ≡ Some (building_of self.new)) }
+    // Whether a token can stand here.
+    fn allows(&self, token: Token) -> bool
+        ensures { result ≡ is_some (taken self.now.source (building_of self.now) token) }
     {
         match token {
-            Token::Quiet => {}
-            Token::Literal(lit) => {
-                self.note_line();
-                self.part.push(lit)?;
+            Token::Quiet | Token::Literal(_) | Token::Zero => true,
+            Token::LetterD => self.source == Source::Proof && self.is_fresh(),
+            Token::LetterP => {
+                self.source == Source::Formula && self.is_fresh() && self.steps.is_empty()
             }
-            Token::Zero => {
-                self.note_line();
-                self.end_step(heap)?;
-            }
-            Token::LetterD => {
-                if !self.may_delete() {
-                    return Ok(false);
-                }
-                self.note_line();
-                self.action = Action::Delete;
-            }
-            Token::LetterP => return Ok(self.may_head()),
-        }
-        Ok(true)
-    }
-
-    fn may_delete(&self) -> bool
-        ensures { result ≡ (is_proof self.now.source && is_fresh (building_of self.now)) }
-    {
-        match self.source {
-            Source::Formula => false,
-            Source::Proof => self.is_fresh(),
         }
     }
 
-    fn has_no_steps(&self) -> bool
-        ensures { result ≡ none_of (map step_of self.now.steps.items) }
-    {
-        self.steps.is_empty()
-    }
-
-    fn may_head(&self) -> bool
-        ensures { result ≡ (not (is_proof self.now.source) && (is_fresh (building_of self.now) && none_of (map step_of self.now.steps.items))) }
-    {
-        match self.source {
-            Source::Formula => self.is_fresh() && self.has_no_steps(),
-            Source::Proof => false,
-        }
-    }
-
-    // The next byte; false if it can't stand there.
-    fn feed(&mut self, heap: Global, byte: u8) -> Result<bool, AllocError>
+    // What a token does that can stand here.
+    fn take(&mut self, token: Token) -> Result<(), AllocError>
         ensures source { self.new.source ≡ self.old.source }
-        ensures after { IfOk result (λ b. b ≡ true → fed self.old.source (state_of self.old) byte ≡ Some (state_of self.new)) }
+        ensures after { OnOk result (is_some (taken self.old.source (building_of self.old) token) ≡ true → taken self.old.source (building_of self.old) token ≡ Some (building_of self.new)) }
     {
-        let Some((lexer, token)) = next(self.lexer, byte) else {
-            return Ok(false);
-        };
-        if !self.take(heap, token)? {
-            return Ok(false);
+        self.note_line();
+        match token {
+            Token::Quiet | Token::LetterP => {}
+            Token::Literal(lit) => self.part.push(lit)?,
+            Token::Zero => self.end_step()?,
+            Token::LetterD => self.action = Action::Delete,
         }
+        Ok(())
+    }
+
+    // The next byte.
+    fn feed(&mut self, byte: u8) -> Result<(), Problem>
+        ensures source { self.new.source ≡ self.old.source }
+        ensures after { OnOk result (fed self.old.source (state_of self.old) byte ≡ Some (state_of self.new)) }
+    {
+        let refused = Problem::BadByte {
+            source: self.source,
+            line: self.line,
+            byte,
+        };
+        let (lexer, token) = next(self.lexer, byte).ok_or(refused)?;
+        if !self.allows(token) {
+            return Err(refused);
+        }
+        self.take(token)?;
         self.lexer = lexer;
         if byte == b'\n' {
             self.line = self.line.wrapping_add(1);
         }
-        Ok(true)
+        Ok(())
     }
 }
 
@@ -173,16 +159,15 @@ pub fn read(heap: Global, source: Source, text: &[u8]) -> Result<Vec<ProofStep>,
 {
     let mut reader = Reader::new(heap, source);
     for byte in text {
-        if !reader.feed(heap, *byte)? {
-            return Err(Problem::BadByte(source, reader.line, *byte));
-        }
+        reader.feed(*byte)?;
     }
-    let line = reader.line;
-    if !reader.feed(heap, b'\n')? {
-        return Err(Problem::Unended(source, line));
-    }
+    let unended = Problem::Unended {
+        source,
+        line: reader.line,
+    };
+    reader.feed(b'\n').map_err(|problem| problem.at_end())?;
     if !reader.is_fresh() {
-        return Err(Problem::Unended(source, line));
+        return Err(unended);
     }
     Ok(reader.steps)
 }

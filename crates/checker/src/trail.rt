@@ -1,46 +1,46 @@
 // The literals that are true in a round of propagation: a literal is true if its stamp is the round's number,
 // so that a new round begins with none. The queue of those to propagate is there for speed.
-ghost use Rattle.std.specs.Prelude.{◌≡◌, ℕ, ◌+◌, ◌<◌, true, false, ◌⊎◌, List, IfNone, IfOk, slice_set};
-ghost use Rattle.formula.proofs.Rows.{In};
-ghost use Rattle.formula.specs.Logic.{other, Clause};
-ghost use Rattle.checker.specs.Forced.{is_true, Low, Grows, Assumed};
+ghost use Rattle.std.specs.Prelude.{◌≡◌, ℕ, ◌+◌, ◌^◌, ◌<◌, ◌≤◌, true, false, ◌⊎◌, List, IfNone, IfOk, slice_index, slice_set};
 
 use formula::literal::opposite;
 use formula::table::{get, put};
 use std::alloc::{AllocError, Global};
+use std::collections::VecDeque;
 
 #[derive(Drop)]
 pub struct Trail {
     stamps: Vec<u64>,
     round: u64,
-    queue: Vec<u64>,
-    head: usize,
+    queue: VecDeque<u64>,
+    // No stamp is above the round.
+    ghost low: { (l : ℕ) → slice_index stamps.items l ≤ round },
 }
 
 impl Trail {
+    ghost use Rattle.formula.proofs.Rows.{In};
+    ghost use Rattle.formula.specs.Logic.{other, Clause};
+    ghost use Rattle.checker.specs.Forced.{is_true, Grows, Assumed};
+
     // A trail for so many literals.
     pub fn new(heap: Global, count: usize) -> Result<Trail, AllocError>
-        ensures { IfOk result (λ t. Low t × (t.round ≡ 0)) }
+        ensures { IfOk result (λ t. t.round ≡ 0) }
     {
         let stamps = vec![in heap; 0; count]?;
         Ok(Trail {
             stamps,
             round: 0,
-            queue: Vec::new(heap),
-            head: 0,
+            queue: VecDeque::new(heap),
         })
     }
 
     // A new round: no literal is true.
     pub fn begin(&mut self)
-        requires { (Low self.old) × (self.old.round + 1 < 18446744073709551616) }
-        ensures low { Low self.new }
+        requires { self.old.round + 1 < 2 ^ 64 }
         ensures round { self.new.round ≡ self.old.round + 1 }
         ensures none { (l : ℕ) → is_true self.new l ≡ false }
     {
         self.round += 1;
         self.queue.clear();
-        self.head = 0;
     }
 
     pub fn is_true(&self, lit: u64) -> bool
@@ -61,7 +61,7 @@ impl Trail {
         ensures after { self.new.stamps.items ≡ slice_set self.old.stamps.items lit self.old.round }
     {
         put(&mut self.stamps, lit, self.round);
-        self.queue.push(lit)?;
+        self.queue.push_back(lit)?;
         Ok(())
     }
 
@@ -69,12 +69,7 @@ impl Trail {
     pub fn next(&mut self) -> Option<u64>
         ensures { (cs : List Clause) → Grows cs self.old self.new }
     {
-        if self.head >= self.queue.len() {
-            return None;
-        }
-        let lit = self.queue[self.head];
-        self.head += 1;
-        Some(lit)
+        self.queue.pop_front()
     }
 
     // How many literals there are.
@@ -92,18 +87,15 @@ impl Trail {
     pub fn find_open(&self, clause: &[u64], but: u64) -> Option<u64>
         ensures { IfNone result ((k : ℕ) → In k clause.now → (k ≡ but) ⊎ (is_true self.now (other k) ≡ true)) }
     {
-        for lit in clause {
-            if !self.is_false_or(*lit, but) {
-                return Some(*lit);
-            }
-        }
-        None
+        clause
+            .iter()
+            .copied()
+            .find(|lit| !self.is_false_or(*lit, but))
     }
 
     // All literals of the clause are taken to be false; true if one of them was true by then.
     pub fn assume_false(&mut self, clause: &[u64]) -> Result<bool, AllocError>
-        requires low { Low self.old }
-        requires none_true { (l : ℕ) → is_true self.old l ≡ false }
+        requires { (l : ℕ) → is_true self.old l ≡ false }
         ensures { IfOk result (Assumed clause.now self.old self.new) }
     {
         for lit in clause {

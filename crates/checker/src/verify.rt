@@ -14,6 +14,5 @@ pub fn verify(heap: Global, formula: &[u8], proof: &[u8]) -> Result<Verdict, Pro
     let formula = read(heap, Source::Formula, formula)?;
     let steps = read(heap, Source::Proof, proof)?;
     let input = Input { formula, steps };
-    let verdict = check_steps(heap, &input)?;
-    Ok(verdict)
+    Ok(check_steps(heap, &input)?)
 }

@@ -6,28 +6,18 @@ use std::alloc::{AllocError, Global};
 pub struct Watches {
     // The clauses that watch a literal.
     lists: Vec<Vec<usize>>,
-    // Both watched literals of a clause, one xor the other.
+    // Both watched literals of a clause, one xor the other, and 0 for a clause that is short. The clauses themselves
+    // lie apart, since all that is promised rests on them and nothing on this.
     pairs: Vec<u64>,
     // The clauses with fewer than two different literals.
     short: Vec<usize>,
-}
-
-fn second_literal(clause: &[u64], first: u64) -> Option<u64> {
-    for lit in clause {
-        if *lit != first {
-            return Some(*lit);
-        }
-    }
-    None
 }
 
 impl Watches {
     // No watches, for so many literals.
     pub fn new(heap: Global, count: usize) -> Result<Watches, AllocError> {
         let mut lists = Vec::new(heap);
-        for _i in 0..count {
-            lists.push(Vec::new(heap))?;
-        }
+        lists.resize_with(count, || Vec::new(heap))?;
         Ok(Watches {
             lists,
             pairs: Vec::new(heap),
@@ -46,7 +36,7 @@ impl Watches {
     pub fn push(&mut self, clause: &[u64]) -> Result<(), AllocError> {
         let id = self.pairs.len();
         let first = clause.first().copied().unwrap_or(0);
-        match second_literal(clause, first) {
+        match clause.iter().copied().find(|lit| *lit != first) {
             Some(second) => {
                 self.watch(first, id)?;
                 self.watch(second, id)?;
@@ -60,25 +50,11 @@ impl Watches {
         Ok(())
     }
 
-    // A clause that has no watches because it is not added.
-    pub fn skip(&mut self) -> Result<(), AllocError> {
-        self.pairs.push(0)?;
-        Ok(())
-    }
-
-    pub fn count(&self, lit: u64) -> usize {
-        match self.lists.get(lit as usize) {
-            Some(list) => list.len(),
-            None => 0,
-        }
-    }
-
-    // The clause at a place among those that watch a literal.
-    pub fn at(&self, lit: u64, place: usize) -> Option<usize> {
-        match self.lists.get(lit as usize) {
-            Some(list) => list.get(place).copied(),
-            None => None,
-        }
+    // The clauses that watch a literal.
+    pub fn watching(&self, lit: u64) -> &[usize] {
+        self.lists
+            .get(lit as usize)
+            .map_or(&[], |list| list.as_slice())
     }
 
     // The literal that a clause watches beside this one.
@@ -86,11 +62,12 @@ impl Watches {
         self.pairs.get(id).copied().unwrap_or(0) ^ lit
     }
 
+    // The clause at a place among those that watch a literal no longer does.
     pub fn remove(&mut self, lit: u64, place: usize) {
-        if let Some(list) = self.lists.get_mut(lit as usize) {
-            if place < list.len() {
-                let _ = list.swap_remove(place);
-            }
+        if let Some(list) = self.lists.get_mut(lit as usize)
+            && place < list.len()
+        {
+            let _ = list.swap_remove(place);
         }
     }
 
@@ -103,18 +80,14 @@ impl Watches {
         to: u64,
     ) -> Result<(), AllocError> {
         self.remove(from, place);
-        if id < self.pairs.len() {
-            self.pairs[id] ^= from ^ to;
+        if let Some(pair) = self.pairs.get_mut(id) {
+            *pair ^= from ^ to;
         }
         self.watch(to, id)
     }
 
     // The clauses with fewer than two different literals.
-    pub fn short_at(&self, place: usize) -> Option<usize> {
-        self.short.get(place).copied()
-    }
-
-    pub fn short_count(&self) -> usize {
-        self.short.len()
+    pub fn short(&self) -> &[usize] {
+        self.short.as_slice()
     }
 }

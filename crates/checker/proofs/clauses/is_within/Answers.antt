@@ -1,13 +1,9 @@
-use Rattle.std.proofs.Common.{arith}
+use Rattle.std.proofs.Common.{◌∙◌, rules, tests}
+use Rattle.std.proofs.lemmas.Iterator.{YieldsList-from_slice}
+use Rattle.std.proofs.lemmas.Iterator.Search.{all_from_yields_List}
 use Rattle.formula.specs.Logic.{has}
-use Rattle.formula.proofs.Rows.{every_drop, every_drop_end}
+use Rattle.formula.proofs.Rows.{every_is_list_all}
 use Rattle.checker.proofs.clauses.is_within.Goals as goal
 
-pub returns-then-not-contains : goal.returns-then-not-contains
-returns-then-not-contains c = let e = every_drop (has c.args.other.now) c.args.clause.now c.loop-lit.lit-index 0 c.loop-lit-test.true in grind arith
-
-pub loop-lit-preserved : goal.loop-lit-preserved
-loop-lit-preserved c = let e = every_drop (has c.args.other.now) c.args.clause.now c.loop-lit.lit-index 0 c.loop-lit-test.true in grind arith
-
 pub returns : goal.returns
-returns c = let e = every_drop_end (has c.args.other.now) c.args.clause.now c.loop-lit.lit-index c.loop-lit-test.false in grind arith
+returns c = all_from_yields_List (has c.args.other.now) _ _ _ c.all.ensures.ran (YieldsList-from_slice c.args.clause.now cc) (λ x b q k. search (rules, tests)) ∙ every_is_list_all (has c.args.other.now) c.args.clause.now

@@ -1,6 +1,6 @@
 use Rattle.checker.proofs.Forcing.{grows_then}
 use Rattle.checker.proofs.Rounds.{propagated_yes, propagated_none}
-use Rattle.checker.proofs.propagate.propagate.Goals as goal
+use Rattle.checker.proofs.propagate.Propagator.propagate.Goals as goal
 
 pub returns-in_default : goal.returns-in_default
 returns-in_default c = propagated_none _ _ _ (grows_then _ _ _ _ c.loop-i.invariant (c.next.ensures _))

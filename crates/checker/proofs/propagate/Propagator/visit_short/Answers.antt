@@ -1,0 +1,5 @@
+use Rattle.checker.proofs.Rounds.{visited_conflict}
+use Rattle.checker.proofs.propagate.Propagator.visit_short.Goals as goal
+
+pub returns-in-Conflict : goal.returns-in-Conflict
+returns-in-Conflict c = visited_conflict _ _ _ _ _ c.loop-id.invariant c.in-Conflict.is c.in_ok-visit.ensures

@@ -1,5 +1,0 @@
-use Rattle.checker.proofs.Rounds.{visited_conflict}
-use Rattle.checker.proofs.propagate.visit_short.Goals as goal
-
-pub returns-in-Conflict : goal.returns-in-Conflict
-returns-in-Conflict c = visited_conflict _ _ _ _ _ c.loop-place.invariant c.in-Conflict.is c.in_ok-visit.ensures
