@@ -2,16 +2,20 @@
 """Random commands for `varisat commands`, and the answers that they must get, found by trying all truths.
 
   random_commands.py --seed N --count K --to NAME    a script of K commands or some more, NAME.in, and its answers, NAME.out
-  random_commands.py --run PROGRAM                   play random scripts against the program, and check every answer
+  random_commands.py --run PROGRAM [--check CHECKER] play random scripts against the program, and check every answer; with a checker
+                                                     of proofs, scripts that write proofs too
 """
 import argparse
 import functools
 import operator
+import pathlib
 import random
 import subprocess
 import sys
+import tempfile
 
 MAX_VARS = 12
+PROOF = "refused 8: not while a proof is written, or too late for that"
 NOT_SOLVED_SO = "refused 4: the last solving didn't end so: no model, or no core, to tell"
 
 
@@ -29,23 +33,41 @@ class Model:
         self.assumed = []
         self.made = 0
         self.solved = None
+        self.added = []
+        self.proving = False
+
+    def prove(self):
+        if self.added or self.assumed or self.made or self.proving:
+            return PROOF
+        self.proving, self.solved = True, None
+        return "ok"
+
+    def is_late(self):
+        return self.proving and self.solved is not None
 
     def all_of(self, row):
         """The truths of the clauses at which these literals are true too."""
         return functools.reduce(operator.and_, (self.truth[lit] for lit in row), self.clauses)
 
     def new(self):
+        if self.is_late():
+            return PROOF
         self.made += 1
         self.solved = None if self.solved == 1 else self.solved
         return str(self.made)
 
     def add(self, row):
+        if self.is_late():
+            return PROOF
+        self.added.append(row)
         self.clauses &= functools.reduce(operator.or_, (self.truth[lit] for lit in row), 0)
         self.made = max([self.made, *map(abs, row)])
         self.solved = 0 if self.solved == 0 else None
         return "ok"
 
     def assume(self, row):
+        if self.proving:
+            return PROOF
         self.assumed = row
         self.made = max([self.made, *map(abs, row)])
         self.solved = None
@@ -93,26 +115,20 @@ def is_right(model, line, answer):
     if word == "model":
         return model.is_model(answer) if model.solved == 1 else answer == NOT_SOLVED_SO
     if word == "core":
-        if answer.startswith("refused 2: "):
-            return True
         # What can't be true with no assumptions stays so under new ones.
         return (model.is_core(answer) if model.solved == 0
                 else answer == NOT_SOLVED_SO or model.solved is None and answer == "0" and model.clauses == 0)
+    if word == "prove":
+        return answer == model.prove()
     row = [int(number) for number in rest[:-1]]
     return answer == (getattr(model, word)(row) if rest else getattr(model, word)())
 
 
-def play(rng, program, count):
-    """A script against the program, a command at a time. The wrong answers are returned."""
-    names = range(1, rng.randint(1, MAX_VARS) + 1)
-    model, longest, wrong = Model(len(names)), rng.randint(2, 4), []
+def talk_to(program, model, lines):
+    """The lines to the program, a command at a time. The wrong answers are returned."""
+    wrong = []
     with subprocess.Popen([program, "commands"], stdin=subprocess.PIPE, stdout=subprocess.PIPE, text=True) as talk:
-        for _ in range(count):
-            line = rng.choices(("add", "assume", "solve", "model", "core", "new"), (10, 3, 6, 5, 2, 1))[0]
-            if line in ("add", "assume"):
-                line += " " + text(random_row(rng, names, longest))
-            elif line == "new" and model.made == len(names):
-                line = "solve"
+        for line in lines:
             talk.stdin.write(line + "\n")
             talk.stdin.flush()
             answer = talk.stdout.readline().rstrip("\n")
@@ -121,6 +137,43 @@ def play(rng, program, count):
         talk.stdin.close()
     if talk.returncode != 0:
         wrong.append(f"the program ended with status {talk.returncode}")
+    return wrong
+
+
+def random_lines(rng, names, count, weights):
+    """Commands over some variables; `new` only so often that there are no others."""
+    longest, left = rng.randint(2, 4), 1
+    for word in rng.choices(("add", "assume", "solve", "model", "core", "new"), weights, k=count):
+        if word in ("add", "assume"):
+            yield f"{word} {text(random_row(rng, names, longest))}"
+        elif word == "new" and len(names) < MAX_VARS and left > 0:
+            left -= 1
+            yield word
+        else:
+            yield "solve" if word == "new" else word
+
+
+def play(rng, program, count):
+    """A script with no proof."""
+    names = range(1, rng.randint(1, MAX_VARS) + 1)
+    model = Model(MAX_VARS)
+    lines = random_lines(rng, names, count, (10, 3, 6, 5, 2, 1))
+    return talk_to(program, model, lines)
+
+
+def play_proof(rng, program, checker):
+    """A script that writes a proof, which the checker has to accept after a no."""
+    names = range(1, rng.randint(1, MAX_VARS) + 1)
+    model = Model(MAX_VARS)
+    with tempfile.TemporaryDirectory() as folder:
+        formula, proof = pathlib.Path(folder, "formula"), pathlib.Path(folder, "proof")
+        lines = ["prove " + str(proof), *random_lines(rng, names, rng.randint(1, 5 * len(names)), (20, 1, 0, 1, 1, 1)), "solve",
+                 *random_lines(rng, names, 12, (2, 2, 2, 2, 2, 2)), "prove"]
+        wrong = talk_to(program, model, lines)
+        if model.solved == 0:
+            formula.write_text(f"p cnf {max(1, model.made)} {len(model.added)}\n" + "".join(text(row) + "\n" for row in model.added), encoding="ascii")
+            if subprocess.run([checker, formula, proof], stdout=subprocess.DEVNULL, check=False).returncode != 0:
+                wrong.append(f"the proof of {model.added} was not verified")
     return wrong
 
 
@@ -176,7 +229,8 @@ def main():
     args.add_argument("--before", type=int, nargs="*", default=[], help="literals of the first variables, settled by then")
     args.add_argument("--to", default="random", help="the script goes to TO.in, and its answers to TO.out")
     args.add_argument("--run", metavar="PROGRAM")
-    args.add_argument("--scripts", type=int, default=200, help="how many are played")
+    args.add_argument("--check", metavar="CHECKER")
+    args.add_argument("--scripts", type=int, default=200, help="how many are played, and how many more with proofs")
     given = args.parse_args()
     if not given.run:
         lines = script(given.seed, given.count, given.before)
@@ -184,13 +238,16 @@ def main():
             with open(given.to + end, "w", encoding="ascii") as out:
                 out.writelines(line[part] + "\n" for line in lines)
         return 0
-    commands = differences = 0
+    scripts = differences = 0
     for number in range(given.scripts):
-        wrong = play(random.Random(given.seed * 1000003 + number), given.run, given.count)
+        rng = random.Random(given.seed * 1000003 + number)
+        wrong = play(rng, given.run, given.count)
+        if given.check:
+            wrong += play_proof(rng, given.run, given.check)
         for fault in wrong:
             print(f"script {number}: {fault}")
-        commands, differences = commands + given.count, differences + len(wrong)
-    print(f"{given.scripts} scripts, {commands} commands, {differences} differences")
+        scripts, differences = scripts + (2 if given.check else 1), differences + len(wrong)
+    print(f"{scripts} scripts, {differences} differences")
     return int(differences > 0)
 
 

@@ -2,7 +2,7 @@
 use Rattle.std.proofs.Common.{◌≡◌, ℕ, zero, suc, ◌<◌, true, false, eqb, ◌⊎◌, List, [], ◌∷◌, length, get_or, set, Some, None, Option, MatchOption, IfNone, vec_items, sym, refl, ap, ◌∙◌, subst, inl, inr, arith}
 use Rattle.std.proofs.lemmas.List.{get_or-set_other}
 use Rattle.std.proofs.lemmas.Bool.{cases_eq, eqb-true, eq-eqb}
-use Rattle.std.specs.List.{AllWithin}
+use Rattle.std.specs.List.{AllWithin, slice_get}
 use Rattle.formula.specs.Logic.{Clause, other, by_propagation}
 use Rattle.formula.proofs.Rows.{clash, In}
 use Rattle.formula.proofs.Completeness.{complete, forced_in, clash_in}
@@ -87,6 +87,6 @@ pub assumed_clash : (t : Trail) (c : Clause) (l : ℕ) → In l c → is_true t 
 unfolding AllForced Forced
 assumed_clash t c l i e f cs = complete cs c (λ us g a s. a l (f cs l e us g a s) (g l i))
 
-pub refuted_empty : (cs : List Clause) (r : Clause) (t : Trail) → In r cs → length r ≡ 0 → Refuted cs t
+pub refuted_empty : (cs : List Clause) (r : Clause) (t : Trail) → In r cs → slice_get r 0 ≡ None → Refuted cs t
 refuted_empty cs [] t i e = refuted_by cs [] t i (λ k j. absurd j)
-refuted_empty cs (x ∷ r) t i e = absurd (omega arith)
+refuted_empty cs (x ∷ r) t i e = cc

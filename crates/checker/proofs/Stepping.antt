@@ -1,13 +1,10 @@
 -- The steps, one after another: how far the check has come after each, and what that says at the end.
-use Rattle.std.proofs.Common.{◌≡◌, ℕ, zero, suc, ◌+◌, ◌<◌, ◌≤◌, List, [], ◌∷◌, ◌++◌, map, length, get_or, drop, Some, Bor, Bool, true, false, take, vec_items, sym, ap, ◌∙◌, subst, arith}
+use Rattle.std.proofs.Common.{◌≡◌, ℕ, ◌+◌, ◌<◌, ◌≤◌, List, [], ◌∷◌, ◌++◌, map, length, get_or, drop, Some, Bor, Bool, true, ◌||◌, eqb, take, vec_items, sym, refl, ap, ◌∙◌, subst, arith}
 use lib.ListN.{length-map}
-use mathlib.Core.Bool.{false≢true}
-use Rattle.std.specs.Bool.{MatchBool}
-use Rattle.std.specs.List.{HoldsAt}
+use Rattle.std.specs.List.{list_any}
 use Rattle.std.proofs.lemmas.List.{drop_all, get_or-map, drop_more, take_more}
 use Rattle.std.proofs.lemmas.Bool.{and_from}
-use Rattle.formula.specs.Logic.{none_of, Clause, Step, adds, deletes, by_propagation, holds, has_empty, without}
-use Rattle.formula.proofs.Rows.{or_right}
+use Rattle.formula.specs.Logic.{Clause, Step, adds, deletes, by_propagation, holds, has_empty, without}
 use Rattle.formula.proofs.Deletions.{copies}
 use Rattle.checker.specs.declared.input.Input.{Input}
 use Rattle.checker.specs.declared.input.ProofStep.{ProofStep}
@@ -17,6 +14,7 @@ use Rattle.checker.specs.Input.{clause_of, step_as, step_of, formula_of, steps_o
 use Rattle.checker.specs.Standing.{Rows, standing, Deleted}
 use Rattle.checker.specs.Going.{Fewer, Going}
 use Rattle.checker.proofs.Counting.{standing_push, fewer_added, fewer_dropped, follows_fewer}
+use Rattle.checker.proofs.TextRead.{empty_none}
 
 pub going_start : (x : Input) (rs : Rows) (t : Trail) → standing rs ≡ formula_of x → t.round ≡ 0 → Going x rs t 0
 unfolding Fewer
@@ -66,17 +64,16 @@ unfolding holds
 going_end x rs t j g h = g.rest (ap (holds g.clauses) (drop_all j (steps_of x) (omega (arith, length-map (vec_items x.steps) step_of))))
 
 -- THE EMPTY CLAUSE
-has_empty_more : (s : Step) (ss : List Step) → has_empty ss ≡ true → has_empty (s ∷ ss) ≡ true
+has_empty_first : {b : Bool} (s : Step) (ss : List Step) → b ≡ has_empty ss → has_empty (s ∷ []) || b ≡ has_empty (s ∷ ss)
 unfolding has_empty
-has_empty_more (adds c) ss h = or_right (none_of c) (has_empty ss) h
-has_empty_more (deletes c) ss h = h
+has_empty_first (adds c) ss e = grind arith
+has_empty_first (deletes c) ss e = e
 
-pub has_empty_at : (ps : List ProofStep) (j : ℕ) → j < length ps → HoldsAt (λ s. step_of s ≡ adds []) ps j → has_empty (map step_of ps) ≡ true
-unfolding has_empty none_of
-has_empty_at [] j h a = absurd (omega arith)
-has_empty_at (p ∷ ps) zero h a = ap (λ (y : Step). has_empty (y ∷ map step_of ps)) (a p)
-has_empty_at (p ∷ ps) (suc j) h a = has_empty_more (step_of p) (map step_of ps) (has_empty_at ps j (omega arith) a)
+pub any_is_has_empty : (ps : List ProofStep) → list_any (λ s. has_empty (step_of s ∷ [])) ps ≡ has_empty (map step_of ps)
+unfolding has_empty
+any_is_has_empty [] = refl
+any_is_has_empty (p ∷ ps) = has_empty_first (step_of p) (map step_of ps) (any_is_has_empty ps)
 
-pub has_empty_some : (ps : List ProofStep) (r : Bool) (No : Type 0) → MatchBool r ((k : ℕ) × (k < length ps) × HoldsAt (λ s. step_of s ≡ adds []) ps k) No → r ≡ true → has_empty (map step_of ps) ≡ true
-has_empty_some ps true No f e = has_empty_at ps f.0 f.1 f.2
-has_empty_some ps false No f e = absurd (false≢true e)
+pub empty_if_none : (c : Clause) (n : ℕ) → n ≡ length c → eqb n 0 ≡ has_empty (adds c ∷ [])
+unfolding has_empty
+empty_if_none c n e = let k = empty_none c n e in grind arith

@@ -1,10 +1,10 @@
 -- The reading of a text byte by byte, and what the reader's tests say of its lists.
 use mathlib.Core.Bool.{false≢true}
-use Rattle.std.proofs.Common.{Result, Ok, Err, is_ok, OnOk, ◌≡◌, ℕ, ◌+◌, ◌<◌, ◌≤◌, Bool, true, eqb, List, [], ◌∷◌, ◌++◌, map, length, get_or, drop, Some, None, vec_items, Option, refl, ap, ◌∙◌, arith}
+use Rattle.std.proofs.Common.{Result, Ok, Err, is_ok, OnOk, ◌≡◌, ℕ, ◌+◌, ◌<◌, ◌≤◌, Bool, true, false, eqb, List, [], ◌∷◌, ◌++◌, map, length, get_or, drop, Some, None, vec_items, Option, refl, ap, ◌∙◌, arith}
 use Rattle.std.specs.Option.{option_map}
 use Rattle.std.proofs.lemmas.Bool.{ne_eqb}
 use Rattle.std.proofs.lemmas.List.{at_drop_more, at_drop_all}
-use Rattle.formula.specs.Logic.{pick, none_of, Clause}
+use Rattle.formula.specs.Logic.{pick, none_of, Clause, holds, has_empty}
 use Rattle.checker.specs.declared.input.Action.{Action}
 use Rattle.checker.specs.declared.input.Action.TheVariants.{Add, Delete}
 use Rattle.checker.specs.declared.input.ProofStep.{ProofStep}
@@ -17,7 +17,7 @@ use Rattle.checker.specs.declared.check.Verdict.TheVariants.{Verified, Fails, No
 use Rattle.checker.specs.Input.{clause_of, step_as, step_of, formula_of, steps_of}
 use Rattle.checker.specs.Reading.{Building, is_fresh, fed, all_fed, closed, first_state, text_read, clause_in}
 use Rattle.checker.specs.Right.{Right}
-use Rattle.checker.specs.Verified.{Says}
+use Rattle.checker.specs.Verified.{Holds, Says}
 
 -- what holds of a success
 pub on_ok : {T E : Type 0} (r : Result T E) (P : Type 0) → is_ok r ≡ true → OnOk r P → P
@@ -58,15 +58,18 @@ clauses_read (p ∷ ps) = ap (λ (c : Clause). c ∷ map clause_in (map step_of 
     own Add c = refl
     own Delete c = refl
 
-pub says : (f p : List ℕ) (x : Input) (v : Verdict) → text_read Formula f ≡ Some (map step_of (vec_items x.formula)) → text_read Proof p ≡ Some (map step_of (vec_items x.steps)) →
-    Right (formula_of x) (steps_of x) v → Says f p v
-says f p x Verified e q r = record {
-  clauses = formula_of x;
-  steps = steps_of x;
-  formula_is = ap (option_map (map clause_in)) e ∙ ap Some (clauses_read (vec_items x.formula));
-  proof_is = q;
-  right = r.0;
-  empty = r.1;
-}
-says f p x (Fails n) e q r = tt
-says f p x NoEmptyClause e q r = tt
+module _ (f p : List ℕ) (x : Input) (e : text_read Formula f ≡ Some (map step_of (vec_items x.formula))) (q : text_read Proof p ≡ Some (map step_of (vec_items x.steps))) where
+  read_holds : (b : Bool) → (holds (formula_of x) (steps_of x) ≡ true) × (has_empty (steps_of x) ≡ b) → Holds f p b
+  read_holds b r = record {
+    clauses = formula_of x;
+    steps = steps_of x;
+    formula_is = ap (option_map (map clause_in)) e ∙ ap Some (clauses_read (vec_items x.formula));
+    proof_is = q;
+    right = r.0;
+    empty = r.1;
+  }
+
+  pub says : (v : Verdict) → Right (formula_of x) (steps_of x) v → Says f p v
+  says Verified r = read_holds true r
+  says (Fails n) r = tt
+  says NoEmptyClause r = read_holds false r

@@ -3,12 +3,11 @@ use Rattle.std.specs.Prelude.{◌≡◌, ◌+◌, Bool, true, List}
 use Rattle.formula.specs.Logic.{Clause, by_propagation}
 use Rattle.checker.specs.declared.trail.Trail.{Trail}
 use Rattle.checker.specs.declared.propagate.Outcome.{Outcome}
-use Rattle.checker.specs.declared.propagate.Outcome.TheVariants.{Conflict, Gone, Stays, Moves}
+use Rattle.checker.specs.declared.propagate.Outcome.TheVariants.{Conflict, Stays, Moves}
 use Rattle.checker.specs.Forced.{Grows, Refuted}
 
 abbrev pub Clash : List Clause → Trail → Outcome → Type 0
 Clash cs t Conflict = Refuted cs t
-Clash cs t Gone = Unit {0}
 Clash cs t Stays = Unit {0}
 Clash cs t (Moves l) = Unit {0}
 

@@ -1,7 +1,7 @@
 // The check of a proof, step by step. `check_steps` promises of `Verified` that all steps hold, as the
-// definition has it, and that one of them adds the empty clause.
+// definition has it, and that one of them adds the empty clause; of `NoEmptyClause` that all hold and none does.
 ghost use Rattle.std.specs.Prelude.{◌≡◌, ◌+◌, ◌^◌, ◌<◌, true, [], ◌∷◌, ◌++◌, Some, IfOk, OnOk};
-ghost use Rattle.formula.specs.Logic.{adds, has_empty};
+ghost use Rattle.formula.specs.Logic.{has_empty};
 ghost use Rattle.checker.specs.Input.{step_of, formula_of, steps_of};
 ghost use Rattle.checker.specs.Going.{Going, GoesOn};
 ghost use Rattle.checker.specs.Right.{Right};
@@ -37,14 +37,14 @@ fn literal_count(steps: &[ProofStep]) -> usize {
 }
 
 fn is_empty_clause(step: &ProofStep) -> bool
-    ensures { result ≡ true → step_of step.now ≡ adds [] }
+    ensures { result ≡ has_empty (step_of step.now ∷ []) }
 {
     step.action == Action::Add && step.clause.is_empty()
 }
 
 // Whether the empty clause is added.
 fn has_empty_clause(input: &Input) -> bool
-    ensures { result ≡ true → has_empty (steps_of input.now) ≡ true }
+    ensures { result ≡ has_empty (steps_of input.now) }
 {
     input.steps.iter().any(is_empty_clause)
 }

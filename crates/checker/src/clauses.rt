@@ -37,7 +37,7 @@ fn hash(clause: &[u64]) -> u64 {
 }
 
 impl<'a> Clauses<'a> {
-    pub fn new(heap: Global) -> Clauses<'a>
+    pub(crate) fn new(heap: Global) -> Clauses<'a>
         ensures { result.rows.items ≡ [] }
     {
         Clauses {
@@ -47,14 +47,14 @@ impl<'a> Clauses<'a> {
     }
 
     // The literals of a clause, if it stands.
-    pub fn get(&self, id: usize) -> Option<&'a [u64]>
+    pub(crate) fn get(&self, id: usize) -> Option<&'a [u64]>
         ensures { result ≡ slice_index_or self.now.rows.items id None }
     {
         self.rows.get(id).copied().flatten()
     }
 
     // The clause that comes next, by number.
-    pub fn push(&mut self, clause: &'a [u64]) -> Result<(), AllocError>
+    pub(crate) fn push(&mut self, clause: &'a [u64]) -> Result<(), AllocError>
         ensures { OnOk result (self.new.rows.items ≡ self.old.rows.items ++ Some clause.entry ∷ []) }
     {
         let id = self.rows.len();
@@ -99,7 +99,7 @@ impl<'a> Clauses<'a> {
     }
 
     // One clause with these literals no longer stands, if one does.
-    pub fn delete(&mut self, clause: &[u64])
+    pub(crate) fn delete(&mut self, clause: &[u64])
         ensures { Deleted clause.now self.old.rows.items self.new.rows.items }
     {
         if let Some(id) = self.find_copy(clause) {

@@ -151,7 +151,7 @@ fn next_in_line(byte: u8) -> Option<(Lexer, Token)>
 }
 
 // The next byte; none if it can't stand there.
-pub fn next(lexer: Lexer, byte: u8) -> Option<(Lexer, Token)>
+pub(crate) fn next(lexer: Lexer, byte: u8) -> Option<(Lexer, Token)>
     ensures { result ≡ lexed lexer byte }
 {
     match lexer {

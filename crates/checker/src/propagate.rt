@@ -1,6 +1,8 @@
 // Unit propagation over the clauses that stand. `follows` promises of a yes that the clause follows by
 // propagation, as the definition has it, whatever the watch lists hold.
-ghost use Rattle.std.specs.Prelude.{◌≡◌, ◌+◌, ◌^◌, ◌<◌, IfOk};
+ghost use Rattle.std.specs.Prelude.{◌≡◌, ◌+◌, ◌^◌, ◌<◌, List, IfOk};
+ghost use Rattle.formula.specs.Logic.{Clause};
+ghost use Rattle.formula.proofs.Rows.{In};
 ghost use Rattle.checker.specs.Standing.{standing};
 ghost use Rattle.checker.specs.Outcomes.{Visited, Propagated, Answered};
 
@@ -15,8 +17,6 @@ use std::alloc::{AllocError, Global};
 pub enum Outcome {
     // All its literals are false.
     Conflict,
-    // It does not stand.
-    Gone,
     // It keeps its watches.
     Stays,
     // It watches this literal from now on.
@@ -30,22 +30,11 @@ pub struct Propagator {
 }
 
 // A look at a clause of which one watched literal is false and the other is `second`.
-fn visit(
-    clauses: &Clauses<'_>,
-    trail: &mut Trail,
-    id: usize,
-    second: u64,
-) -> Result<Outcome, AllocError>
-    ensures { IfOk result (λ o. Visited (standing clauses.now.rows.items) trail.old trail.new o) }
+fn visit(clause: &[u64], trail: &mut Trail, second: u64) -> Result<Outcome, AllocError>
+    ensures { IfOk result (λ o. (cs : List Clause) → In clause.now cs → Visited cs trail.old trail.new o) }
 {
-    let Some(clause) = clauses.get(id) else {
-        return Ok(Outcome::Gone);
-    };
     if trail.is_true(second) {
         return Ok(Outcome::Stays);
-    }
-    if clause.is_empty() {
-        return Ok(Outcome::Conflict);
     }
     if let Some(lit) = trail.find_open(clause, second) {
         return Ok(Outcome::Moves(lit));
@@ -59,7 +48,7 @@ fn visit(
 
 impl Propagator {
     // No clauses, and room for so many literals.
-    pub fn new(heap: Global, count: usize) -> Result<Propagator, AllocError>
+    pub(crate) fn new(heap: Global, count: usize) -> Result<Propagator, AllocError>
         ensures { IfOk result (λ p. p.trail.round ≡ 0) }
     {
         let trail = Trail::new(heap, count)?;
@@ -68,7 +57,7 @@ impl Propagator {
     }
 
     // The clause that comes next, by number.
-    pub fn push(&mut self, clause: &[u64]) -> Result<(), AllocError>
+    pub(crate) fn push(&mut self, clause: &[u64]) -> Result<(), AllocError>
         ensures { self.new.trail ≡ self.old.trail }
     {
         self.watches.push(clause)
@@ -85,10 +74,13 @@ impl Propagator {
             let Some(id) = self.watches.watching(lit).get(place).copied() else {
                 return Ok(false);
             };
+            let Some(clause) = clauses.get(id) else {
+                self.watches.remove(lit, place);
+                continue;
+            };
             let second = self.watches.other(id, lit);
-            match visit(clauses, &mut self.trail, id, second)? {
+            match visit(clause, &mut self.trail, second)? {
                 Outcome::Conflict => return Ok(true),
-                Outcome::Gone => self.watches.remove(lit, place),
                 Outcome::Stays => place += 1,
                 Outcome::Moves(to) => self.watches.move_to(id, lit, place, to)?,
             }
@@ -101,13 +93,14 @@ impl Propagator {
         ensures { IfOk result (λ b. Propagated (standing clauses.now.rows.items) self.old.trail self.new.trail b) }
     {
         for id in self.watches.short() {
-            // 0 stands for no literal, though it is one: while it is true, an empty clause is passed over.
-            let first = clauses
-                .get(*id)
-                .and_then(|clause| clause.first())
-                .copied()
-                .unwrap_or(0);
-            if let Outcome::Conflict = visit(clauses, &mut self.trail, *id, first)? {
+            let Some(clause) = clauses.get(*id) else {
+                continue;
+            };
+            // A clause with no literal is false, whatever is true.
+            let Some(first) = clause.first() else {
+                return Ok(true);
+            };
+            if let Outcome::Conflict = visit(clause, &mut self.trail, *first)? {
                 return Ok(true);
             }
         }
@@ -131,7 +124,11 @@ impl Propagator {
     }
 
     // Whether the clause follows by propagation, in a new round.
-    pub fn follows(&mut self, clauses: &Clauses<'_>, clause: &[u64]) -> Result<bool, AllocError>
+    pub(crate) fn follows(
+        &mut self,
+        clauses: &Clauses<'_>,
+        clause: &[u64],
+    ) -> Result<bool, AllocError>
         requires { self.old.trail.round + 1 < 2 ^ 64 }
         ensures { IfOk result (λ b. Answered (standing clauses.now.rows.items) clause.now self.old.trail self.new.trail b) }
     {

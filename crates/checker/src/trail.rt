@@ -22,7 +22,7 @@ impl Trail {
     ghost use Rattle.checker.specs.Forced.{is_true, Grows, Assumed};
 
     // A trail for so many literals.
-    pub fn new(heap: Global, count: usize) -> Result<Trail, AllocError>
+    pub(crate) fn new(heap: Global, count: usize) -> Result<Trail, AllocError>
         ensures { IfOk result (λ t. t.round ≡ 0) }
     {
         let stamps = vec![in heap; 0; count]?;
@@ -34,7 +34,7 @@ impl Trail {
     }
 
     // A new round: no literal is true.
-    pub fn begin(&mut self)
+    pub(crate) fn begin(&mut self)
         requires { self.old.round + 1 < 2 ^ 64 }
         ensures round { self.new.round ≡ self.old.round + 1 }
         ensures none { (l : ℕ) → is_true self.new l ≡ false }
@@ -43,20 +43,20 @@ impl Trail {
         self.queue.clear();
     }
 
-    pub fn is_true(&self, lit: u64) -> bool
+    pub(crate) fn is_true(&self, lit: u64) -> bool
         ensures { result ≡ is_true self.now lit }
     {
         get(&self.stamps, lit) == self.round
     }
 
-    pub fn is_false(&self, lit: u64) -> bool
+    pub(crate) fn is_false(&self, lit: u64) -> bool
         ensures { result ≡ is_true self.now (other lit) }
     {
         self.is_true(opposite(lit))
     }
 
     // The literal is taken to be true.
-    pub fn make_true(&mut self, lit: u64) -> Result<(), AllocError>
+    pub(crate) fn make_true(&mut self, lit: u64) -> Result<(), AllocError>
         ensures round { self.new.round ≡ self.old.round }
         ensures after { self.new.stamps.items ≡ slice_set self.old.stamps.items lit self.old.round }
     {
@@ -66,14 +66,14 @@ impl Trail {
     }
 
     // The next literal to propagate.
-    pub fn next(&mut self) -> Option<u64>
+    pub(crate) fn next(&mut self) -> Option<u64>
         ensures { (cs : List Clause) → Grows cs self.old self.new }
     {
         self.queue.pop_front()
     }
 
     // How many literals there are.
-    pub fn count(&self) -> usize {
+    pub(crate) fn count(&self) -> usize {
         self.stamps.len()
     }
 
@@ -84,7 +84,7 @@ impl Trail {
     }
 
     // A literal of the clause that is not false and is not `but`.
-    pub fn find_open(&self, clause: &[u64], but: u64) -> Option<u64>
+    pub(crate) fn find_open(&self, clause: &[u64], but: u64) -> Option<u64>
         ensures { IfNone result ((k : ℕ) → In k clause.now → (k ≡ but) ⊎ (is_true self.now (other k) ≡ true)) }
     {
         clause
@@ -94,7 +94,7 @@ impl Trail {
     }
 
     // All literals of the clause are taken to be false; true if one of them was true by then.
-    pub fn assume_false(&mut self, clause: &[u64]) -> Result<bool, AllocError>
+    pub(crate) fn assume_false(&mut self, clause: &[u64]) -> Result<bool, AllocError>
         requires { (l : ℕ) → is_true self.old l ≡ false }
         ensures { IfOk result (Assumed clause.now self.old self.new) }
     {

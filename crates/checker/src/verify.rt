@@ -1,5 +1,6 @@
 // The check of two texts, a formula and a proof. `verify` promises of `Verified` that what was read of both is a
-// proof that the formula can't be true: its steps hold, and one of them adds the empty clause.
+// proof that the formula can't be true: its steps hold, and one of them adds the empty clause. Of `NoEmptyClause`
+// it promises that the steps hold and none adds it.
 ghost use Rattle.std.specs.Prelude.{IfOk};
 ghost use Rattle.checker.specs.Verified.{Says};
 

@@ -13,9 +13,16 @@ pub struct Watches {
     short: Vec<usize>,
 }
 
+// Two different literals of a clause, if it has them.
+fn two_literals(clause: &[u64]) -> Option<(u64, u64)> {
+    let first = clause.first().copied()?;
+    let second = clause.iter().copied().find(|lit| *lit != first)?;
+    Some((first, second))
+}
+
 impl Watches {
     // No watches, for so many literals.
-    pub fn new(heap: Global, count: usize) -> Result<Watches, AllocError> {
+    pub(crate) fn new(heap: Global, count: usize) -> Result<Watches, AllocError> {
         let mut lists = Vec::new(heap);
         lists.resize_with(count, || Vec::new(heap))?;
         Ok(Watches {
@@ -33,11 +40,10 @@ impl Watches {
     }
 
     // The clause that comes next, by number.
-    pub fn push(&mut self, clause: &[u64]) -> Result<(), AllocError> {
+    pub(crate) fn push(&mut self, clause: &[u64]) -> Result<(), AllocError> {
         let id = self.pairs.len();
-        let first = clause.first().copied().unwrap_or(0);
-        match clause.iter().copied().find(|lit| *lit != first) {
-            Some(second) => {
+        match two_literals(clause) {
+            Some((first, second)) => {
                 self.watch(first, id)?;
                 self.watch(second, id)?;
                 self.pairs.push(first ^ second)?;
@@ -51,19 +57,19 @@ impl Watches {
     }
 
     // The clauses that watch a literal.
-    pub fn watching(&self, lit: u64) -> &[usize] {
+    pub(crate) fn watching(&self, lit: u64) -> &[usize] {
         self.lists
             .get(lit as usize)
             .map_or(&[], |list| list.as_slice())
     }
 
     // The literal that a clause watches beside this one.
-    pub fn other(&self, id: usize, lit: u64) -> u64 {
+    pub(crate) fn other(&self, id: usize, lit: u64) -> u64 {
         self.pairs.get(id).copied().unwrap_or(0) ^ lit
     }
 
     // The clause at a place among those that watch a literal no longer does.
-    pub fn remove(&mut self, lit: u64, place: usize) {
+    pub(crate) fn remove(&mut self, lit: u64, place: usize) {
         if let Some(list) = self.lists.get_mut(lit as usize)
             && place < list.len()
         {
@@ -72,7 +78,7 @@ impl Watches {
     }
 
     // The clause at a place watches another literal from now on.
-    pub fn move_to(
+    pub(crate) fn move_to(
         &mut self,
         id: usize,
         from: u64,
@@ -87,7 +93,7 @@ impl Watches {
     }
 
     // The clauses with fewer than two different literals.
-    pub fn short(&self) -> &[usize] {
+    pub(crate) fn short(&self) -> &[usize] {
         self.short.as_slice()
     }
 }

@@ -1,4 +1,6 @@
 pub mod Scans
 pub mod Values
 pub mod Marks
+pub mod Learning
+pub mod Tables
 pub mod PlainEnds

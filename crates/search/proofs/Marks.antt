@@ -1,11 +1,11 @@
--- The marks on assumptions: what is marked is an assumption, and more marks give more of them,
--- so that what can't be true with some marks can't be with more.
-use Rattle.std.proofs.Common.{◌≡◌, ℕ, zero, suc, ◌<◌, Bool, true, false, eqb, List, [], ◌∷◌, ◌++◌, length, get_or, set, sym, refl, ◌∙◌, subst, inl, inr, arith, length-set}
+-- The marks on assumptions: what is marked is an assumption, and more marks give more of them.
+-- So what follows from the clauses and what is marked still does with more marks.
+use Rattle.std.proofs.Common.{◌≡◌, ℕ, zero, suc, ◌<◌, Bool, true, false, eqb, List, [], ◌∷◌, length, get_or, set, sym, refl, ◌∙◌, subst, inl, inr, arith, length-set}
 use Rattle.std.proofs.lemmas.List.{get_or-set_same, get_or-set_other}
-use Rattle.std.proofs.lemmas.Bool.{cases_eq, eq-eqb, eqb-true, false_from_ne_true}
-use Rattle.formula.specs.Logic.{pick, every, units, has, Clause, Truth, all_true}
-use Rattle.formula.proofs.Rows.{clash, In, Sub, in_left, in_right, in_cases, in_each, each_in, every_of, in_has}
-use Rattle.formula.proofs.Soundness.{all_sub}
+use Rattle.std.proofs.lemmas.Bool.{cases_eq, eq-eqb, eqb-true}
+use Rattle.formula.specs.Logic.{pick, every, units, has, Clause}
+use Rattle.formula.proofs.Rows.{In, Sub, in_left, in_right, in_cases, in_each, each_in, every_of, in_has}
+use Rattle.search.specs.Ends.{base}
 use Rattle.search.specs.Plain.{marked}
 
 pub record Grown (ks ks₁ : List ℕ) : Type 0 where
@@ -54,14 +54,10 @@ marked_sub (k ∷ ks) (j ∷ ks₁) (a ∷ as₁) g l i = go (eqb k 1) refl i (m
     go true e (inr m) ih = kept (ih m)
     go false e m ih = kept (ih m)
 
--- what can't be true with some marks can't be with more
-pub fails_grown : (t : Truth) (cs : List Clause) (ks ks₁ as₁ : List ℕ) → Grown ks ks₁ → all_true t (cs ++ units (marked ks as₁)) ≡ false → all_true t (cs ++ units (marked ks₁ as₁)) ≡ false
-fails_grown t cs ks ks₁ as₁ g h =
-    false_from_ne_true (all_true t (cs ++ units (marked ks₁ as₁))) (λ a. clash (all_true t (cs ++ units (marked ks as₁))) (all_sub t (cs ++ units (marked ks₁ as₁)) (cs ++ units (marked ks as₁)) sub a) h)
-  where
-    sub : Sub (cs ++ units (marked ks as₁)) (cs ++ units (marked ks₁ as₁))
-    sub c i = elim (in_cases c cs (units (marked ks as₁)) i) [
-      | inl j ↦ in_left c cs (units (marked ks₁ as₁)) j
-      | inr j ↦ (let r = each_in (λ l. l ∷ []) c (marked ks as₁) j in
-          in_right c cs (units (marked ks₁ as₁)) (subst (λ (x : Clause). In x (units (marked ks₁ as₁))) (sym r.2) (in_each (λ l. l ∷ []) r.0 (marked ks₁ as₁) (marked_sub ks ks₁ as₁ g r.0 r.1))))
-    ]
+-- the clauses with what is marked are more with more marks
+pub base_grown : (cs : List Clause) (ks ks₁ as₁ : List ℕ) → Grown ks ks₁ → Sub (base cs as₁ ks) (base cs as₁ ks₁)
+base_grown cs ks ks₁ as₁ g c i = elim (in_cases c cs (units (marked ks as₁)) i) [
+  | inl j ↦ in_left c cs (units (marked ks₁ as₁)) j
+  | inr j ↦ (let r = each_in (λ l. l ∷ []) c (marked ks as₁) j in
+      in_right c cs (units (marked ks₁ as₁)) (subst (λ (x : Clause). In x (units (marked ks₁ as₁))) (sym r.2) (in_each (λ l. l ∷ []) r.0 (marked ks₁ as₁) (marked_sub ks ks₁ as₁ g r.0 r.1))))
+]

@@ -1,29 +1,15 @@
--- Literals and clauses under the values in a table: what is false there is false in each truth that agrees with the values,
+-- Literals and clauses under the values in a table: what isn't false there is true in each truth that agrees with the values,
 -- and the row of the model's literals is a truth that agrees with all of them.
 use Rattle.std.proofs.Common.{◌≡◌, ℕ, zero, suc, ◌+◌, ◌*◌, ◌/◌, ◌<◌, ◌≤◌, true, false, not, eqb, ltb, ◌⊎◌, List, [], ◌∷◌, ◌++◌, sym, refl, subst, inl, inr, arith}
-use Rattle.std.proofs.lemmas.Bool.{cases_eq, ltb-true, and_parts, ne_eqb, false_from_ne_true}
+use Rattle.std.proofs.lemmas.Bool.{cases_eq, ltb-true, ne_eqb}
 use Rattle.formula.specs.Logic.{every, any, units, Clause, Truth, true_in, clause_true, all_true, has, truth_of}
-use Rattle.formula.proofs.Rows.{clash, In, in_left, in_cases, each_in, every_at, every_of, every_not, any_at, any_of, any_none, none_any}
+use Rattle.formula.proofs.Rows.{In, in_cases, each_in, every_at, every_of, every_not, any_of}
 use Rattle.search.specs.Ends.{row_below}
-use Rattle.search.specs.Plain.{value_of, lit_false, some_false, model_lit, model_row}
+use Rattle.search.specs.Plain.{value_of, lit_false, model_lit, model_row}
 
 -- a truth that agrees with the values of the variables below d
 abbrev pub Agrees : Truth → ℕ → List ℕ → Type 0
 Agrees t d w = (v : ℕ) → v < d → t v ≡ not (eqb (value_of w v) 1)
-
--- FALSE
-pub lit_false_in : (d : ℕ) (w : List ℕ) (t : Truth) (l : ℕ) → Agrees t d w → lit_false d w l ≡ true → true_in t l ≡ false
-unfolding lit_false
-lit_false_in d w t l ag h = let p = and_parts _ _ h in let a = ag (l / 2) (ltb-true _ _ p.0) in grind arith
-
-pub clause_false_in : (t : Truth) (c : Clause) (cs : List Clause) → In c cs → clause_true t c ≡ false → all_true t cs ≡ false
-clause_false_in t c cs i e = false_from_ne_true (all_true t cs) (λ a. clash (clause_true t c) (every_at (clause_true t) c cs a i) e)
-
-pub some_false_in : (d : ℕ) (w : List ℕ) (t : Truth) (cs ds : List Clause) → Agrees t d w → some_false d w cs ≡ true → all_true t (cs ++ ds) ≡ false
-unfolding some_false
-some_false_in d w t cs ds ag h =
-    let r = any_at (λ c. every (lit_false d w) c) cs h in
-    clause_false_in t r.0 (cs ++ ds) (in_left r.0 cs ds r.1) (none_any (true_in t) r.0 (λ l i. lit_false_in d w t l ag (every_at (lit_false d w) l r.0 r.2 i)))
 
 -- TRUE
 lit_true_in : (n : ℕ) (w : List ℕ) (t : Truth) (l : ℕ) → Agrees t n w → ltb (l / 2) n ≡ true → lit_false n w l ≡ false → true_in t l ≡ true
@@ -36,10 +22,10 @@ clause_true_in n w t c ag low h =
     any_of (true_in t) r.0 c r.1 (lit_true_in n w t r.0 ag (every_at (λ l. ltb (l / 2) n) r.0 c low r.1) r.2)
 
 pub all_true_in : (n : ℕ) (w : List ℕ) (t : Truth) (cs : List Clause) (as₁ : List ℕ) → Agrees t n w → every (row_below n) cs ≡ true → row_below n as₁ ≡ true →
-    some_false n w cs ≡ false → ((l : ℕ) → In l as₁ → lit_false n w l ≡ false) → all_true t (cs ++ units as₁) ≡ true
-unfolding some_false every
+    ((c : Clause) → In c cs → every (lit_false n w) c ≡ false) → ((l : ℕ) → In l as₁ → lit_false n w l ≡ false) → all_true t (cs ++ units as₁) ≡ true
+unfolding every
 all_true_in n w t cs as₁ ag low low₁ alive open₁ = every_of (clause_true t) (cs ++ units as₁) (λ c i. elim (in_cases c cs (units as₁) i) [
-  | inl j ↦ clause_true_in n w t c ag (every_at (row_below n) c cs low j) (any_none (λ e. every (lit_false n w) e) c cs alive j)
+  | inl j ↦ clause_true_in n w t c ag (every_at (row_below n) c cs low j) (alive c j)
   | inr j ↦ (let r = each_in (λ l. l ∷ []) c as₁ j in
       any_of (true_in t) r.0 c (subst (λ (x : Clause). In r.0 x) (sym r.2) (inl refl))
       (lit_true_in n w t r.0 ag (every_at (λ l. ltb (l / 2) n) r.0 as₁ low₁ r.1) (open₁ r.0 r.1)))

@@ -1,6 +1,6 @@
 -- What comes of `read_file` from a memory at rest: its clauses are the house's if they fit, and else the house is as it was; what is wrong in a
 -- file is told in its numbers. `read_answer` is promised of it, and `goes_big` of bytes that are too many.
-use Rattle.std.proofs.Common.{◌≡◌, ℕ, ◌+◌, ◌<◌, ◌≤◌, min, Bool, true, false, not, ◌&&◌, eqb, leb, List, [], ◌∷◌, ◌++◌, length, get_or, take, drop, sym, refl, ap, ◌∙◌, subst, arith, length-append, length-drop}
+use Rattle.std.proofs.Common.{◌≡◌, ℕ, ◌+◌, ◌<◌, ◌≤◌, min, Bool, true, false, ◌&&◌, eqb, ltb, leb, List, [], ◌∷◌, ◌++◌, length, get_or, take, drop, sym, refl, ap, ◌∙◌, subst, arith, length-append, length-drop}
 use lib.Seq.{sets, length-sets}
 use Rattle.std.proofs.lemmas.Bool.{ne_eqb, le-leb, lt-ltb, and_from}
 use Rattle.formula.specs.Logic.{pick, Clause, how_large}
@@ -15,7 +15,7 @@ use Rattle.solver.proofs.Picks.{pick_yes, pick_no}
 use Rattle.solver.proofs.Layouts.{Sized, sized_scalars}
 use Rattle.solver.proofs.Arenas.{take_before, take_rows, fits_same, vars_of_append, size_append}
 use Rattle.solver.proofs.Readings.{Faults, Sound, reads_of, faults_of, file_sound, file_stops_with}
-use Rattle.solver.proofs.Invariant.{state_of, resting, sized_state_of, Holds, Answer, outcome_refused, outcome_done, Goes, goes_done, goes_refused, goes_shows}
+use Rattle.solver.proofs.Invariant.{state_of, resting, late, late_is, sized_state_of, Holds, Answer, refuses, outcome_refused, outcome_done, Goes, goes_done, goes_refused, goes_shows}
 use Rattle.solver.proofs.Growing.{holds_more, holds_kept, arena_room}
 
 -- THE TABLE keeps its length, and what stands before; with no part of a clause it has just the clauses
@@ -37,7 +37,7 @@ laid_whole t i r cs e p =
 -- what is left to tell: whether a number, which, and the end
 abbrev with_told : State → (pending number ending : ℕ) → State
 with_told s p n k =
-    with_scalars s (0 ∷ 0 ∷ 0 ∷ 0 ∷ 0 ∷ 0 ∷ 0 ∷ 0 ∷ scalar s 8 ∷ scalar s 9 ∷ p ∷ n ∷ k ∷ drop 13 s.scalars)
+    with_scalars s (0 ∷ 0 ∷ 0 ∷ 0 ∷ 0 ∷ 0 ∷ 0 ∷ 0 ∷ scalar s 8 ∷ scalar s 9 ∷ p ∷ n ∷ k ∷ 0 ∷ drop 14 s.scalars)
 
 told_long : (s : State) (p n k : ℕ) → Sized s → length (with_told s p n k).scalars ≡ 256
 told_long s p n k z = let a = z.scalars_long in simp length-drop (omega arith)
@@ -69,7 +69,7 @@ module _ (h : House) (v d : ℕ) (s : State) (z : Sized s) where
       goes_refused (at 0 n k) (resting h v d (with_told s 0 n k)) next ss [] (sized_at 0 n k) k
       (and_from _ _ (le-leb 1 k (omega arith)) (lt-ltb k 1000 (omega arith))) (refuses_told n k a b)
 
-module _ (h : House) (v d : ℕ) (s : State) (st : Holds h v s) (bs : List ℕ) (fits : file_fits bs ≡ true) where
+module _ (h : House) (v d : ℕ) (s : State) (st : Holds h v s) (bs : List ℕ) (fits : file_fits bs ≡ true) (timely : late h ≡ false) where
   abbrev arena_after : List ℕ
   arena_after = table_after s.arena (size h.clauses) bs
 
@@ -90,17 +90,17 @@ module _ (h : House) (v d : ℕ) (s : State) (st : Holds h v s) (bs : List ℕ) 
 
   reads : (x : Read) → file_read bs ≡ x → on_event (resting h v d s) (said (read_file bs)) ≡ on_outcome (resting h v d behind) (outcome_of x)
   unfolding on_event on_command
-  reads x e = pick_yes _ _ _ fits ∙ ap (λ (y : Read). on_outcome (resting h v d behind) (outcome_of y)) e
+  reads x e = pick_no _ _ _ (late_is h v s st.tells ∙ timely) ∙ pick_yes _ _ _ fits ∙ ap (λ (y : Read). on_outcome (resting h v d behind) (outcome_of y)) e
 
   refusal_is : (x : Read) → file_read bs ≡ x → refusal h (read_file bs) ≡ read_refusal h x
   unfolding refusal
   refusal_is x e =
-      ap (λ (b : Bool). pick (b && not (eqb h.solved 0)) 8 (read_refusal h (file_read bs))) st.not_proving ∙ ap (read_refusal h) e
+      pick_no (late h) 8 (read_refusal h (file_read bs)) timely ∙ ap (read_refusal h) e
 
   refused_with_is : (x : Read) → file_read bs ≡ x → refused_with h (read_file bs) ≡ read_rows x
   unfolding refused_with
   refused_with_is x e =
-      ap (λ (b : Bool). pick (b && not (eqb h.solved 0)) [] (read_rows (file_read bs))) st.not_proving ∙ ap read_rows e
+      pick_no (late h) [] (read_rows (file_read bs)) timely ∙ ap read_rows e
 
   -- WRONG
   goes_faulty : (k : ℕ) (ns : List ℕ) → Faults k ns → file_read bs ≡ wrong k ns →
@@ -165,7 +165,7 @@ module _ (h : House) (v d : ℕ) (s : State) (st : Holds h v s) (bs : List ℕ) 
 
       holds_read : Holds house_after verdict_after behind
       holds_read =
-          holds_more h v s r.read_clauses arena_after st (reads_of (subst (Sound 1048577) e (file_sound bs fits))).clauses_lits fit arena_long all_lie
+          holds_more h v s r.read_clauses arena_after st timely (reads_of (subst (Sound 1048577) e (file_sound bs fits))).clauses_lits fit arena_long all_lie
 
       read_turn : on_event (resting h v d s) (said (read_file bs)) ≡ turn (at house_after verdict_after d behind holds_read.sized 1 (length all) 0) (shows (vars_of all))
       unfolding outcome_of
@@ -176,7 +176,7 @@ module _ (h : House) (v d : ℕ) (s : State) (st : Holds h v s) (bs : List ℕ) 
           let long : size h.clauses + (how_large cs + length cs) ≡ size all = sym (size_append h.clauses cs) in
           reads (goes_on r) e ∙ pick_yes _ _ _ (fits_same h.clauses cs ∙ fit)
           ∙ (λ i. turn (state (larger h.made (vars_of cs) ∷ count i ∷ long i ∷ length h.assumed ∷ verdict_after ∷ 5 ∷ d ∷ vars i
-          ∷ scalar s 8 ∷ scalar s 9 ∷ 1 ∷ count i ∷ 0 ∷ drop 13 s.scalars)
+          ∷ scalar s 8 ∷ scalar s 9 ∷ 1 ∷ count i ∷ 0 ∷ pick h.proving 1 0 ∷ drop 14 s.scalars)
           s.assumptions s.core s.model arena_after s.work) (shows (vars i)))
 
       fit_answer : (known : Command → Bool) → known (read_file bs) ≡ true → Answer known (flat (resting h v d s)) h (read_file bs)
@@ -202,8 +202,8 @@ module _ (h : House) (v d : ℕ) (s : State) (st : Holds h v s) (bs : List ℕ) 
             ),
           )
 
-  pub read_answer : (known : Command → Bool) → known (read_file bs) ≡ true → Answer known (flat (resting h v d s)) h (read_file bs)
-  read_answer known kn = go (file_read bs) refl
+  timely_answer : (known : Command → Bool) → known (read_file bs) ≡ true → Answer known (flat (resting h v d s)) h (read_file bs)
+  timely_answer known kn = go (file_read bs) refl
     where
       by : (r : Reader) → file_read bs ≡ goes_on r → (b : Bool) → fitting (h.clauses ++ r.read_clauses) ≡ b → Answer known (flat (resting h v d s)) h (read_file bs)
       by r e true fit = fit_answer r e fit known kn
@@ -213,9 +213,26 @@ module _ (h : House) (v d : ℕ) (s : State) (st : Holds h v s) (bs : List ℕ) 
       go (goes_on r) e = by r e (fitting (h.clauses ++ r.read_clauses)) refl
       go (wrong k ns) e = wrong_answer known k ns e kn
 
+pub read_answer : (h : House) (v d : ℕ) (s : State) → Holds h v s → (bs : List ℕ) → file_fits bs ≡ true → (known : Command → Bool) → known (read_file bs) ≡ true →
+    Answer known (flat (resting h v d s)) h (read_file bs)
+unfolding refusal refused_with on_event on_command
+read_answer h v d s st bs fits known kn = go (late h) refl
+  where
+    go : (b : Bool) → late h ≡ b → Answer known (flat (resting h v d s)) h (read_file bs)
+    go false e = timely_answer h v d s st bs fits e known kn
+    go true e =
+        refuses known h v d s st (read_file bs) 8 kn (pick_yes _ _ _ e) (omega arith) refl (pick_yes _ _ _ e) (pick_yes _ _ _ (late_is h v s st.tells ∙ e))
+
 -- too many bytes: refused, and nothing is changed
 pub goes_big : (h : House) (v d : ℕ) (s : State) → Holds h v s → (bs : List ℕ) → file_fits bs ≡ false →
-    Goes (resting h v d s) (said (read_file bs)) [] [] (ran (flat (resting h v d s)) [] [] 2)
+    (q : ℕ) × (q < 1000) × Goes (resting h v d s) (said (read_file bs)) [] [] (ran (flat (resting h v d s)) [] [] q)
 unfolding on_event on_command
-goes_big h v d s st bs big =
-    goes_refused (resting h v d s) (resting h v d s) (said (read_file bs)) [] [] (sized_state_of h v 0 d s st.sized) 2 refl (pick_no _ _ _ big)
+goes_big h v d s st bs big = go (late h) refl
+  where
+    refuses_with : (q : ℕ) → (leb 1 q && ltb q 1000) ≡ true → on_event (resting h v d s) (said (read_file bs)) ≡ turn (resting h v d s) (refused q) →
+        Goes (resting h v d s) (said (read_file bs)) [] [] (ran (flat (resting h v d s)) [] [] q)
+    refuses_with q small e = goes_refused (resting h v d s) (resting h v d s) (said (read_file bs)) [] [] (sized_state_of h v 0 d s st.sized) q small e
+
+    go : (b : Bool) → late h ≡ b → (q : ℕ) × (q < 1000) × Goes (resting h v d s) (said (read_file bs)) [] [] (ran (flat (resting h v d s)) [] [] q)
+    go true e = (8, omega arith, refuses_with 8 refl (pick_yes _ _ _ (late_is h v s st.tells ∙ e)))
+    go false e = (2, omega arith, refuses_with 2 refl (pick_no _ _ _ (late_is h v s st.tells ∙ e) ∙ pick_no _ _ _ big))

@@ -1,6 +1,6 @@
 -- What holds of the memory at rest holds again with other numbers behind, and with clauses more if they lie in the arena behind the others.
 -- For `add`, for printing, and for a file that is read.
-use Rattle.std.proofs.Common.{◌≡◌, ℕ, ◌≤◌, true, eqb, leb, List, ◌++◌, length, take, ap, arith}
+use Rattle.std.proofs.Common.{◌≡◌, ℕ, ◌≤◌, true, false, eqb, leb, List, ◌++◌, length, take, ap, arith}
 use Rattle.formula.specs.Logic.{pick, every, Clause}
 use Rattle.formula.specs.Arena.{rows_of, size}
 use Rattle.dimacs.specs.Text.{vars_of, larger}
@@ -12,7 +12,7 @@ use Rattle.solver.specs.State.{State, state, with_scalars, with_arena}
 use Rattle.solver.proofs.Picks.{every_append, larger_left, larger_right, larger_in}
 use Rattle.solver.proofs.Layouts.{Sized, sized_scalars, sized_arena}
 use Rattle.solver.proofs.Arenas.{fitting_parts, below_more, all_below_more, below_vars}
-use Rattle.solver.proofs.Invariant.{Tells, unsolved, can, cannot, never, Holds}
+use Rattle.solver.proofs.Invariant.{late, no_steps, Tells, unsolved, can, cannot, never, Holds}
 
 tells_add : (h : House) (cs : List Clause) (s : State) (ar : List ℕ) (v : ℕ) → Tells h s v → Tells (with_clauses h cs) (with_arena s ar) (pick (leb 2 v) v 0)
 tells_add h cs s ar v (unsolved e) = unsolved (ap (λ (x : ℕ). pick (eqb x 2) 2 0) e)
@@ -21,9 +21,9 @@ tells_add h cs s ar v (cannot e c n) = cannot (ap (λ (x : ℕ). pick (eqb x 2) 
 tells_add h cs s ar v (never e n) = never (ap (λ (x : ℕ). pick (eqb x 2) 2 0) e) n
 
 -- with clauses more, which lie behind the others
-pub holds_more : (h : House) (v : ℕ) (s : State) (cs : List Clause) (ar : List ℕ) → Holds h v s → every lits_fit cs ≡ true → fitting (h.clauses ++ cs) ≡ true →
+pub holds_more : (h : House) (v : ℕ) (s : State) (cs : List Clause) (ar : List ℕ) → Holds h v s → late h ≡ false → every lits_fit cs ≡ true → fitting (h.clauses ++ cs) ≡ true →
     length ar ≡ 81920 → take (size (h.clauses ++ cs)) ar ≡ rows_of (h.clauses ++ cs) → Holds (with_clauses h cs) (pick (leb 2 v) v 0) (with_arena s ar)
-holds_more h v s cs ar st lits fit long lie =
+holds_more h v s cs ar st timely lits fit long lie =
     let new : ℕ = larger h.made (vars_of cs) in
     let old_in : h.made ≤ new = larger_left h.made (vars_of cs) in
     let z = st.sized in
@@ -37,7 +37,7 @@ holds_more h v s cs ar st lits fit long lie =
           (all_below_more (vars_of cs) new cs (larger_right h.made (vars_of cs)) (below_vars cs));
       assumed_below = below_more h.made new h.assumed old_in st.assumed_below;
       tells = tells_add h cs s ar v st.tells;
-      not_proving = st.not_proving;
+      while_proving = λ p. let r = no_steps h v s st timely p in (r.0, λ e. r.1);
     }
 
 pub arena_room : (h : House) (s : State) (cs : List Clause) → Sized s → fitting (h.clauses ++ cs) ≡ true → size (h.clauses ++ cs) ≤ length s.arena
@@ -56,7 +56,7 @@ holds_kept h v s sc ar st sl al lie =
       clauses_below = st.clauses_below;
       assumed_below = st.assumed_below;
       tells = go v st.tells;
-      not_proving = st.not_proving;
+      while_proving = st.while_proving;
     }
   where
     go : (v : ℕ) → Tells h s v → Tells h (state sc s.assumptions s.core s.model ar s.work) v

@@ -1,15 +1,13 @@
 -- What holds between commands: the memory is at rest with a house. What an answer to a command is, for any list of commands,
--- and how a run goes along turns of the state: quietly while it searches, and literal by literal while it shows a model.
-use Rattle.std.proofs.Common.{◌≡◌, ℕ, zero, suc, ◌+◌, ◌<◌, ◌≤◌, Bool, true, false, ◌&&◌, ltb, leb, List, [], ◌∷◌, ◌++◌, length, get_or, take, drop, sym, refl, ap, ◌∙◌, subst, append_assoc, append-nil, arith, length-drop, length-take}
+-- and how a run goes along turns of the state, literal by literal while it shows a model.
+use Rattle.std.proofs.Common.{◌≡◌, ℕ, zero, suc, ◌+◌, ◌<◌, ◌≤◌, Bool, true, false, not, ◌&&◌, eqb, ltb, leb, List, [], ◌∷◌, ◌++◌, length, get_or, take, drop, sym, refl, ap, ◌∙◌, subst, append_assoc, append-nil, arith, length-drop, length-take}
 use Rattle.std.proofs.lemmas.List.{drop_more}
 use Rattle.std.proofs.lemmas.Bool.{lt-ltb, le-ltb, and_parts}
 use borrow.Author.Tests.{clash}
-use Rattle.formula.specs.Logic.{every, none_of, Clause}
+use Rattle.formula.specs.Logic.{pick, every, none_of, Clause}
 use Rattle.search.specs.declared.plain.Finding.{Finding}
-use Rattle.search.specs.declared.plain.Finding.TheVariants.{Exhausted, Back, Conflict, Failed, Open, Full}
-use Rattle.search.specs.Plain.{look, mark, marked}
-use Rattle.search.specs.Plain as plain
-use Rattle.search.specs.Ends.{Turns, still, onward, is_last, row_below}
+use Rattle.search.specs.Plain.{look, turned, mark, marked}
+use Rattle.search.specs.Ends.{row_below}
 use Rattle.dimacs.specs.Text.{vars_of}
 use Rattle.solver.specs.House.{House, Command, refusal, refused_with, After, shown, written, small_command, fitting}
 use Rattle.solver.specs.Promise.{Event, said, next, shows, writes, done, refused, Ran, ran, Right}
@@ -18,7 +16,6 @@ use Rattle.solver.specs.Machine.{turn, with_turn, on_event, searched}
 use Rattle.solver.specs.Entry.{own}
 use Rattle.solver.proofs.Runs.{Comes, comes_done, comes_refused, comes_shows, comes_writes, comes_quiet}
 use Rattle.solver.proofs.Layouts.{Sized, sized_scalars, step_flat, moved}
-use Rattle.solver.proofs.Steadies.{length_act, length_mark}
 use Rattle.formula.specs.Arena.{size, rows_of}
 use Rattle.solver.proofs.Arenas.{clauses_are}
 
@@ -26,7 +23,7 @@ use Rattle.solver.proofs.Arenas.{clauses_are}
 abbrev pub state_of : House → (verdict phase cursor : ℕ) → State → State
 state_of h v p d s =
     with_scalars s (h.made ∷ length h.clauses ∷ size h.clauses ∷ length h.assumed ∷ v ∷ p ∷ d ∷ vars_of h.clauses
-    ∷ scalar s 8 ∷ scalar s 9 ∷ scalar s 10 ∷ scalar s 11 ∷ scalar s 12 ∷ drop 13 s.scalars)
+    ∷ scalar s 8 ∷ scalar s 9 ∷ scalar s 10 ∷ scalar s 11 ∷ scalar s 12 ∷ pick h.proving 1 0 ∷ drop 14 s.scalars)
 
 abbrev pub resting : House → (verdict cursor : ℕ) → State → State
 resting h v d s = state_of h v 0 d s
@@ -47,13 +44,34 @@ pub record Holds (h : House) (v : ℕ) (s : State) : Type 0 where
   pub clauses_below : every (row_below h.made) h.clauses ≡ true
   pub assumed_below : row_below h.made h.assumed ≡ true
   pub tells : Tells h s v
-  pub not_proving : h.proving ≡ false
+  pub while_proving : h.proving ≡ true → (h.assumed ≡ []) × (h.solved ≡ 0 → h.steps ≡ [])
 
 pub assumed_few : (h : House) (v : ℕ) (s : State) → Holds h v s → length h.assumed ≤ 1024
 assumed_few h v s st =
     let a = st.sized.assumptions_long in
     let b = ap length (sym st.assumed_lie) ∙ length-take (length h.assumed) s.assumptions in
     omega arith
+
+-- A PROOF is written, and it's too late to change what it speaks of
+abbrev pub late : House → Bool
+late h = h.proving && not (eqb h.solved 0)
+
+pub proving_is : (b : Bool) → eqb (pick b 1 0) 1 ≡ b
+proving_is true = refl
+proving_is false = refl
+
+pub late_is : (h : House) (v : ℕ) (s : State) → Tells h s v → (eqb (pick h.proving 1 0) 1 && not (eqb v 0)) ≡ late h
+late_is h v s (unsolved e) = ap (λ (b : Bool). b && not (eqb 0 0)) (proving_is h.proving) ∙ sym (ap (λ (x : ℕ). h.proving && not (eqb x 0)) e)
+late_is h v s (can e m) = ap (λ (b : Bool). b && not (eqb 1 0)) (proving_is h.proving) ∙ sym (ap (λ (x : ℕ). h.proving && not (eqb x 0)) e)
+late_is h v s (cannot e c n) = ap (λ (b : Bool). b && not (eqb 2 0)) (proving_is h.proving) ∙ sym (ap (λ (x : ℕ). h.proving && not (eqb x 0)) e)
+late_is h v s (never e n) = ap (λ (b : Bool). b && not (eqb 3 0)) (proving_is h.proving) ∙ sym (ap (λ (x : ℕ). h.proving && not (eqb x 0)) e)
+
+-- while it isn't too late no step is written yet
+pub no_steps : (h : House) (v : ℕ) (s : State) → Holds h v s → late h ≡ false → h.proving ≡ true → (h.assumed ≡ []) × (h.steps ≡ [])
+no_steps h v s st e p =
+    let r = st.while_proving p in
+    let z : h.solved ≡ 0 = grind arith in
+    (r.0, r.1 z)
 
 abbrev pub AtRest : List ℕ → House → Type 0
 AtRest m h = (v : ℕ) × (d : ℕ) × (s : State) × (m ≡ flat (resting h v d s)) × Holds h v s
@@ -83,9 +101,6 @@ right known answer (c ∷ cs) small m h st =
     )
 
 module _ (known : Command → Bool) (h : House) (c : Command) (m : List ℕ) where
-  outcome_unknown : known c ≡ false → Outcome known h c (ran m [] [] 2) h
-  outcome_unknown e = (λ k. (refl, refl, refl, refl), λ k. absurd (clash (sym e ∙ k)), λ k. absurd (clash (sym e ∙ k)))
-
   pub outcome_refused : (q : ℕ) (ss : List ℕ) → known c ≡ true → refusal h c ≡ q → 0 < q → refused_with h c ≡ ss → Outcome known h c (ran m ss [] q) h
   outcome_refused q ss e r pos w = (λ k. absurd (clash (sym k ∙ e)), λ k l. (sym r, sym w, refl, refl), λ k z. absurd (omega arith))
 
@@ -116,7 +131,7 @@ module _ (s s₁ : State) (ev : Event) (ss ws : List ℕ) (z : Sized s) where
 pub sized_state_of : (h : House) (v p d : ℕ) (s : State) → Sized s → Sized (state_of h v p d s)
 sized_state_of h v p d s z = sized_scalars s _ z (let l = z.scalars_long in simp length-drop (omega arith))
 
--- a command refused, or not known
+-- a command refused
 module _ (known : Command → Bool) (h : House) (v d : ℕ) (s : State) (st : Holds h v s) where
   pub refuses : (c : Command) (q : ℕ) → known c ≡ true → refusal h c ≡ q → 0 < q → (leb 1 q && ltb q 1000) ≡ true → refused_with h c ≡ [] →
       on_event (resting h v d s) (said c) ≡ turn (resting h v d s) (refused q) → Answer known (flat (resting h v d s)) h c
@@ -129,24 +144,13 @@ module _ (known : Command → Bool) (h : House) (v d : ℕ) (s : State) (st : Ho
         (v, d, s, refl, st),
       )
 
-  pub unknown : (c : Command) → known c ≡ false → on_event (resting h v d s) (said c) ≡ turn (resting h v d s) (refused 2) →
-      Answer known (flat (resting h v d s)) h c
-  unknown c e t =
-      let s₁ = resting h v d s in (
-        ran (flat s₁) [] [] 2,
-        h,
-        goes_refused s₁ s₁ (said c) [] [] (sized_state_of h v 0 d s st.sized) 2 refl t,
-        outcome_unknown known h c (flat s₁) e,
-        (v, d, s, refl, st),
-      )
-
 -- a number shown, and then at rest
-pub shows_done : (s : State) (ev : Event) (n : ℕ) (h : House) (v d : ℕ) (s₁ : State) → Sized s → Sized s₁ → on_event s ev ≡ turn (resting h v d s₁) (shows n) →
-    Goes s ev [] [] (ran (flat (resting h v d s₁)) (n ∷ []) [] 0)
+pub shows_done : (s : State) (ev : Event) (n : ℕ) (ws : List ℕ) (h : House) (v d : ℕ) (s₁ : State) → Sized s → Sized s₁ →
+    on_event s ev ≡ turn (resting h v d s₁) (shows n) → Goes s ev [] ws (ran (flat (resting h v d s₁)) (n ∷ []) ws 0)
 unfolding on_event
-shows_done s ev n h v d s₁ z z₁ e =
+shows_done s ev n ws h v d s₁ z z₁ e =
     let t = resting h v d s₁ in
-    goes_shows s t ev [] [] z n (ran (flat t) (n ∷ []) [] 0) e (goes_done t t next (n ∷ []) [] (sized_state_of h v 0 d s₁ z₁) refl)
+    goes_shows s t ev [] ws z n (ran (flat t) (n ∷ []) ws 0) e (goes_done t t next (n ∷ []) ws (sized_state_of h v 0 d s₁ z₁) refl)
 
 -- SHOWING A MODEL
 module _ (h : House) (v : ℕ) (s : State) (z : Sized s) where
@@ -175,20 +179,12 @@ module _ (h : House) (v : ℕ) (s : State) (z : Sized s) where
       (append_assoc ss (n ∷ []) (take j (drop (d + 1) s.model))) (goes_showing few j (d + 1) (ss ++ n ∷ []) (omega arith))))
 
 -- SEARCHING
-turn_goes_on : (s : State) (f : Finding) → is_last f ≡ false → searched s f ≡ turn (with_turn s f) (writes [])
-turn_goes_on s Exhausted e = absurd (clash (sym e))
-turn_goes_on s Back e = refl
-turn_goes_on s Conflict e = refl
-turn_goes_on s (Failed i) e = refl
-turn_goes_on s Open e = refl
-turn_goes_on s Full e = absurd (clash (sym e))
-
 -- in the midst of a search: with another work and another core, and the state that they make
 abbrev pub in_search : State → (work core : List ℕ) → State
 in_search s w ks = with_core (with_work s w) ks
 
-abbrev pub amid : House → ℕ → State → (work core : List ℕ) → State
-amid h d s w ks = state_of h 0 1 d (in_search s w ks)
+abbrev pub amid : House → (phase cursor : ℕ) → State → (work core : List ℕ) → State
+amid h p d s w ks = state_of h 0 p d (in_search s w ks)
 
 pub sized_in_search : (s : State) (w ks : List ℕ) → Sized s → length w ≡ 423680 → length ks ≡ 1024 → Sized (in_search s w ks)
 sized_in_search s w ks z l k =
@@ -201,26 +197,17 @@ sized_in_search s w ks z l k =
       work_long = l;
     }
 
-module _ (h : House) (d : ℕ) (s : State) (st : Holds h 0 s) where
-  pub sized_amid : (w ks : List ℕ) → length w ≡ 423680 → length ks ≡ 1024 → Sized (amid h d s w ks)
-  sized_amid w ks l k = sized_state_of h 0 1 d (in_search s w ks) (sized_in_search s w ks st.sized l k)
+module _ (h : House) (s : State) (st : Holds h 0 s) where
+  pub sized_amid : (p d : ℕ) (w ks : List ℕ) → length w ≡ 423680 → length ks ≡ 1024 → Sized (amid h p d s w ks)
+  sized_amid p d w ks l k = sized_state_of h 0 p d (in_search s w ks) (sized_in_search s w ks st.sized l k)
 
-  pub looks : (w ks : List ℕ) → on_event (amid h d s w ks) next ≡ searched (amid h d s w ks) (look h.clauses h.assumed h.made w)
+  pub looks : (d : ℕ) (w ks : List ℕ) → on_event (amid h 1 d s w ks) next ≡ searched (amid h 1 d s w ks) (look h.clauses h.assumed h.made w)
   unfolding on_event
-  looks w ks =
-      ap (λ (cs : List Clause). searched (amid h d s w ks) (look cs (take (length h.assumed) s.assumptions) h.made w))
+  looks d w ks =
+      ap (λ (cs : List Clause). searched (amid h 1 d s w ks) (look cs (take (length h.assumed) s.assumptions) h.made w))
       (clauses_are h.clauses (size h.clauses) s.arena st.clauses_lie)
-      ∙ ap (λ (as₁ : List ℕ). searched (amid h d s w ks) (look h.clauses as₁ h.made w)) st.assumed_lie
+      ∙ ap (λ (as₁ : List ℕ). searched (amid h 1 d s w ks) (look h.clauses as₁ h.made w)) st.assumed_lie
 
-  -- turns of the search are quiet steps, and keep the lengths
-  pub goes_searching : {w ks w₁ ks₁ : List ℕ} → Turns h.clauses h.assumed h.made w ks w₁ ks₁ → length w ≡ 423680 → length ks ≡ 1024 →
-      (length w₁ ≡ 423680) × (length ks₁ ≡ 1024) × ((r : Ran) → Goes (amid h d s w₁ ks₁) next [] [] r → Goes (amid h d s w ks) next [] [] r)
-  goes_searching still l k = (l, k, λ r g. g)
-  goes_searching (onward {w} {ks} e t) l k =
-      let f = look h.clauses h.assumed h.made w in
-      let a = goes_searching t (length_act w f l) (length_mark ks f k) in (
-        a.0,
-        a.1,
-        λ r g. goes_quiet (amid h d s w ks) (amid h d s (plain.act w f) (mark ks f)) next [] [] (sized_amid w ks l k) r
-            (looks w ks ∙ turn_goes_on (amid h d s w ks) f e) (a.2 r g),
-      )
+  -- a turn of the search is one of the state
+  pub turns_amid : (p d : ℕ) (w ks : List ℕ) (f : Finding) → with_turn (amid h p d s w ks) f ≡ amid h p d s (turned s.arena h.assumed w f) (mark ks f)
+  turns_amid p d w ks f = ap (λ (as₁ : List ℕ). amid h p d s (turned s.arena as₁ w f) (mark ks f)) st.assumed_lie

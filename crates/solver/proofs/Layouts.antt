@@ -92,10 +92,10 @@ every_zeros f h zero = refl
 every_zeros f h (suc n) = and_from _ _ h (every_zeros f h n)
 
 -- the first numbers of a row of them
-pub zeros_thirteen : (n : ℕ) → let m = suc (suc (suc (suc (suc (suc (suc (suc (suc (suc (suc (suc (suc n)))))))))))) in
-    zeros m ≡ 0 ∷ 0 ∷ 0 ∷ 0 ∷ 0 ∷ 0 ∷ 0 ∷ 0 ∷ get_or (zeros m) 8 0 ∷ get_or (zeros m) 9 0 ∷ get_or (zeros m) 10 0 ∷ get_or (zeros m) 11 0 ∷ get_or (zeros m) 12 0 ∷ drop 13 (zeros m)
+pub zeros_fourteen : (n : ℕ) → let m = suc (suc (suc (suc (suc (suc (suc (suc (suc (suc (suc (suc (suc (suc n))))))))))))) in
+    zeros m ≡ 0 ∷ 0 ∷ 0 ∷ 0 ∷ 0 ∷ 0 ∷ 0 ∷ 0 ∷ get_or (zeros m) 8 0 ∷ get_or (zeros m) 9 0 ∷ get_or (zeros m) 10 0 ∷ get_or (zeros m) 11 0 ∷ get_or (zeros m) 12 0 ∷ 0 ∷ drop 14 (zeros m)
 unfolding zeros
-zeros_thirteen n = refl
+zeros_fourteen n = refl
 
 pub zeros_append : (n k : ℕ) → zeros (n + k) ≡ zeros n ++ zeros k
 unfolding zeros

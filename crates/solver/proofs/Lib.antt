@@ -17,6 +17,7 @@ pub mod Coring
 pub mod TextSizes
 pub mod Printing
 pub mod Filing
+pub mod Searching
 pub mod Solving
 pub mod EachCommand
 pub mod Wholly

@@ -1,13 +1,13 @@
 -- How the tables lie in the memory: a part written is that one table of the view changed, and the tables joined are the memory.
 -- The lemmas on parts are over any place and length; the rest names the map.
-use Rattle.std.proofs.Common.{◌≡◌, ℕ, ◌+◌, ◌-◌, ◌≤◌, List, ◌++◌, length, take, drop, sym, refl, ap, ◌∙◌, arith, length-take}
+use Rattle.std.proofs.Common.{◌≡◌, ℕ, ◌+◌, ◌-◌, ◌≤◌, List, [], ◌++◌, length, take, drop, sym, refl, ap, ◌∙◌, arith, append-nil, length-take}
 use borrow.Rule.Slice.PartMut.{put_mid}
 use Rattle.std.proofs.lemmas.Slice.{drop-put_mid, take-put_mid_below}
-use Rattle.std.proofs.lemmas.List.{drop-take, take_at, drop_at, length-take-le, drop-drop, take-append-drop, take_all, length-drop}
+use Rattle.std.proofs.lemmas.List.{drop-take, take_at, drop_at, length-take-le, drop-drop, take-append-drop, take_all, drop_all, length-drop}
 use Rattle.std.specs.declared.ops.Range.{Range}
 use Rattle.solver.specs.declared.tables.Table.{Table}
 use Rattle.solver.specs.declared.tables.Table.TheVariants.{Scalars, Assumptions, Core, Model, Arena, Work}
-use Rattle.solver.specs.State.{state, view, flat}
+use Rattle.solver.specs.State.{state, view, flat, with_work}
 use Rattle.solver.specs.Tables.{table_of, with_table, start_of, end_of}
 use Rattle.solver.specs.Coded.{Sized}
 
@@ -71,6 +71,20 @@ pub changed : (f : List ℕ → List ℕ) (m t : List ℕ) (k : Table) (r : Rang
 changed f m t k r e h l w =
     let l₁ : length t ≡ length (table_of (view m) k) = rw e at l ∙ ap length (table_is m k) in
     rw e (view_put m t k h (l₁ ∙ table_long m k h) ∙ ap (with_table (view m) k) (rw e at w ∙ ap f (table_is m k)))
+
+-- the memory split where the search's half begins
+pub front_arena : (m : List ℕ) → take 81920 (drop 18688 (take 100608 m)) ≡ (view m).arena
+unfolding view
+front_arena m = ap (take 81920) (drop-take 18688 81920 m) ∙ take_all 81920 (take 81920 (drop 18688 m)) (simp length-take (omega arith))
+
+pub back_work : (m : List ℕ) → Sized m → drop 100608 m ≡ (view m).work
+unfolding view
+back_work m h = sym (take_all 423680 (drop 100608 m) (simp length-drop (omega arith)))
+
+pub view_halves : (m w : List ℕ) → Sized m → length w ≡ 423680 → view (take 100608 m ++ w) ≡ with_work (view m) w
+view_halves m w h l =
+    let rest : drop 423680 (drop 100608 m) ≡ [] = drop_all 423680 (drop 100608 m) (simp length-drop (omega arith)) in
+    ap (λ (x : List ℕ). view (take 100608 m ++ x)) (sym (append-nil w) ∙ ap (λ (x : List ℕ). w ++ x) (sym rest)) ∙ view_put m w Work h l
 
 -- one table after another
 joined : (a k b : ℕ) (m : List ℕ) → a + k ≡ b → take k (drop a m) ++ drop b m ≡ drop a m

@@ -37,7 +37,7 @@ module _ (ar : List ℕ) (long : length ar ≡ 81920) where
 -- with so many literals and clauses left
 abbrev with_left : State → (literals clauses : ℕ) → State
 with_left s l n =
-    with_scalars s (0 ∷ 0 ∷ 0 ∷ 0 ∷ 0 ∷ 0 ∷ 0 ∷ 0 ∷ l ∷ n ∷ scalar s 10 ∷ scalar s 11 ∷ scalar s 12 ∷ drop 13 s.scalars)
+    with_scalars s (0 ∷ 0 ∷ 0 ∷ 0 ∷ 0 ∷ 0 ∷ 0 ∷ 0 ∷ l ∷ n ∷ scalar s 10 ∷ scalar s 11 ∷ scalar s 12 ∷ 0 ∷ drop 14 s.scalars)
 
 left_long : (s : State) (l n : ℕ) → Sized s → length (with_left s l n).scalars ≡ 256
 left_long s l n z = let a = z.scalars_long in simp length-drop (omega arith)

@@ -8,8 +8,7 @@ use Rattle.dimacs.specs.Text.{Read, goes_on, wrong, file_read, formula_text}
 use Rattle.dimacs.specs.Statements.{lits_fit, ThereAndBack}
 use Rattle.dimacs.proofs.ThereAndBack.{there_and_back}
 use Rattle.search.specs.Ends.{SearchEnds}
-use Rattle.solver.specs.House.{House, Command, new_var, add, assume, solve, model_of, failed_core, read_file, print_it, prove, refusal, read_refusal, read_after, After, written, fitting}
-use Rattle.solver.specs.Known.{all_but_proofs}
+use Rattle.solver.specs.House.{House, Command, new_var, add, assume, solve, model_of, failed_core, read_file, print_it, prove, refusal, read_refusal, read_after, After, written, fitting, everything}
 use Rattle.solver.specs.Promise.{said, Ran, ran, runs}
 use Rattle.solver.specs.PrintBack.{Reached, begun, driven, PrintsBack}
 use Rattle.solver.specs.State.{flat}
@@ -69,10 +68,12 @@ big_rests m h solve e st = absurd (clash (sym e))
 big_rests m h model_of e st = absurd (clash (sym e))
 big_rests m h failed_core e st = absurd (clash (sym e))
 big_rests m h (read_file bs) e st =
-    let s₁ = flat (resting h st.0 st.1 st.2) in (
-      ran s₁ [] [] 2,
+    let s₁ = flat (resting h st.0 st.1 st.2) in
+    let g = goes_big h st.0 st.1 st.2 st.4 bs e in
+    let low = g.1 in (
+      ran s₁ [] [] g.0,
       h,
-      subst (λ (x : List ℕ). Comes own x (said (read_file bs)) [] [] (ran s₁ [] [] 2)) (sym st.3) (goes_big h st.0 st.1 st.2 st.4 bs e),
+      subst (λ (x : List ℕ). Comes own x (said (read_file bs)) [] [] (ran s₁ [] [] g.0)) (sym st.3) g.2,
       λ q. omega arith,
       (st.0, st.1, st.2, refl, st.4),
     )
@@ -87,7 +88,7 @@ module _ (ends : SearchEnds) where
         a.0,
         a.1,
         a.2,
-        answer_ends all_but_proofs h a.1 c a.0 a.3 (refusal_low h c e),
+        answer_ends everything h a.1 c a.0 a.3 (refusal_low h c e),
         a.4,
       ))
       (λ (e : bytes_fit c ≡ false). big_rests m h c e st) (cases_Bool (bytes_fit c))
@@ -106,7 +107,7 @@ module _ (ends : SearchEnds) where
   -- PRINTED, and read back
   prints_clauses : (m : List ℕ) (h : House) → AtRest m h →
       (n : ℕ) × ((runs n own m (said print_it) [] []).end ≡ 0) × ((runs n own m (said print_it) [] []).wrote ≡ formula_text h.clauses)
-  unfolding all_but_proofs refusal written
+  unfolding refusal written
   prints_clauses m h st =
       let a = answers ends m h print_it refl st in
       let o = a.3.2 refl refl in
@@ -116,7 +117,7 @@ module _ (ends : SearchEnds) where
   reads_clauses : (cs : List Clause) → every lits_fit cs ≡ true → fitting cs ≡ true → let text = formula_text cs in
       (k : ℕ) × (h : House) × ((runs k own own.start (said (read_file text)) [] []).end ≡ 0) × AtRest (runs k own own.start (said (read_file text)) [] []).memory h
       × (h.clauses ≡ cs)
-  unfolding all_but_proofs refusal read_refusal read_after After ThereAndBack
+  unfolding refusal read_refusal read_after After ThereAndBack
   reads_clauses cs lits fit =
       let text = formula_text cs in
       let few = fitting_parts cs fit in

@@ -1,6 +1,6 @@
 -- The memory is steady: it keeps its length, and its numbers stay below 2^64, whatever stands in it and whatever is said.
 -- Both are shown at once, table by table; smallness only if it was there before.
-use Rattle.std.proofs.Common.{◌≡◌, ℕ, ◌+◌, ◌-◌, ◌<◌, ◌≤◌, min, Bool, true, ◌&&◌, eqb, ltb, leb, List, [], ◌∷◌, length, get_or, take, drop, set, sym, refl, ◌∙◌, arith, length-drop, length-set, length-take}
+use Rattle.std.proofs.Common.{◌≡◌, ℕ, ◌+◌, ◌-◌, ◌/◌, ◌<◌, ◌≤◌, min, Bool, true, ◌&&◌, eqb, ltb, leb, List, [], ◌∷◌, length, get_or, take, drop, set, sym, refl, ◌∙◌, arith, length-drop, length-set, length-take}
 use lib.Seq.{sets, length-sets}
 use Rattle.std.proofs.lemmas.Bool.{ltb-true, lt-ltb, leb-true, and_parts, and_from, eqb-true}
 use Rattle.formula.specs.Logic.{pick, every, none_of, Clause, added_up, how_large}
@@ -10,13 +10,13 @@ use Rattle.dimacs.specs.Scan.{stopped_at, laid, table_after, outcome_of}
 use Rattle.dimacs.proofs.ThereAndBack.{row_few, vars_few}
 use Rattle.dimacs.specs.Statements.{lits_fit}
 use Rattle.search.specs.declared.plain.Finding.{Finding}
-use Rattle.search.specs.declared.plain.Finding.TheVariants.{Exhausted, Back, Conflict, Failed, Open, Full}
-use Rattle.search.specs.Plain.{look, mark, marked, depth_of, value_of, model_row}
+use Rattle.search.specs.declared.plain.Finding.TheVariants.{Exhausted, Back, Flip, Learned, Conflict, Failed, Open, Full}
+use Rattle.search.specs.Plain.{look, mark, marked, depth_of, last_var, blamed, see, turned, model_row}
 use Rattle.search.specs.Plain as plain
 use Rattle.solver.specs.House.{Command, new_var, add, assume, solve, model_of, failed_core, read_file, print_it, prove}
-use Rattle.solver.specs.Promise.{Event, said, next, refused, Move, Steady, all_small}
+use Rattle.solver.specs.Promise.{Event, said, next, done, refused, Move, Steady, all_small}
 use Rattle.solver.specs.State.{State, view, flat, zeros, scalar, with_scalars, with_phase, with_cursor, with_arena, num_vars, num_clauses, arena_len, num_assumptions, verdict, phase, cursor, clause_vars, lits_left, clauses_left, pending, formula, assumed}
-use Rattle.solver.specs.Machine.{Turn, on_event, on_command, searched, showing, showing_core, place, printing, telling, file_fits, on_outcome, clause_fits, machine_step}
+use Rattle.solver.specs.Machine.{Turn, proves, too_late, untouched, with_turn, answered_no, on_event, on_command, on_next, turn, searched, searching, writing, showing, showing_core, place, printing, telling, file_fits, on_outcome, clause_fits, machine_step}
 use Rattle.solver.specs.Entry.{own}
 use Rattle.solver.proofs.Picks.{pick_both, every_append, every_take, every_drop, every_set, every_sets, every_getD, every_imp, few}
 use Rattle.solver.proofs.Models.{model_row_small}
@@ -76,19 +76,31 @@ module _ (Q : Type 0) where
   act_fits : {n : ℕ} (w : List ℕ) (f : Finding) → Table Q n w → Table Q n (plain.act w f)
   unfolding plain.act
   act_fits w Exhausted t = t
-  act_fits {n} w Back t =
-      pick_both (Table Q n) (eqb (value_of w (depth_of w - 1)) 1) _ _
-      (λ h. write _ 1 0 (λ q. omega arith) (write w (256 + (depth_of w - 1)) 2 (λ q. omega arith) t)) (λ h. write w 0 (depth_of w - 1) (λ q. omega arith) t)
-  act_fits w Conflict t = write w 1 1 (λ q. omega arith) t
+  act_fits w Back t = write w 0 (last_var w) (λ q. omega arith) t
+  act_fits w Flip t =
+      write _ 1 0 (λ q. omega arith) (write _ (16640 + last_var w) 0 (λ q. omega arith) (write w (256 + last_var w) 2 (λ q. omega arith) t))
+  act_fits w Learned t = write w 0 (last_var w) (λ q. omega arith) t
+  act_fits w (Conflict p) t = write w 1 1 (λ q. omega arith) t
   act_fits w (Failed i) t = write w 1 1 (λ q. omega arith) t
-  act_fits w Open t = write _ 0 (depth_of w + 1) (λ q. omega arith) (write w (256 + depth_of w) 1 (λ q. omega arith) t)
+  act_fits w Open t =
+      write _ 0 (depth_of w + 1) (λ q. omega arith) (write _ (16640 + depth_of w) 0 (λ q. omega arith) (write w (256 + depth_of w) 1 (λ q. omega arith) t))
   act_fits w Full t = t
+
+  see_fits : {n : ℕ} (ls w : List ℕ) → Table Q n w → Table Q n (see w ls)
+  unfolding see
+  see_fits [] w t = t
+  see_fits (l ∷ ls) w t = see_fits ls (set w (16640 + l / 2) 1) (write w (16640 + l / 2) 1 (λ q. omega arith) t)
+
+  turned_fits : {n : ℕ} (arena as₁ w : List ℕ) (f : Finding) → Table Q n w → Table Q n (turned arena as₁ w f)
+  turned_fits arena as₁ w f t = see_fits (blamed arena as₁ f) (plain.act w f) (act_fits w f t)
 
   mark_fits : {n : ℕ} (ks : List ℕ) (f : Finding) → Table Q n ks → Table Q n (mark ks f)
   unfolding mark
   mark_fits ks Exhausted t = t
   mark_fits ks Back t = t
-  mark_fits ks Conflict t = t
+  mark_fits ks Flip t = t
+  mark_fits ks Learned t = t
+  mark_fits ks (Conflict p) t = t
   mark_fits ks (Failed i) t = write ks i 1 (λ q. omega arith) t
   mark_fits ks Open t = t
   mark_fits ks Full t = t
@@ -139,8 +151,9 @@ module _ (Q : Type 0) where
   command_fits s new_var f =
       pick_both FitsAfter (ltb (num_vars s) 16384) _ _
       (λ h. let l = ltb-true (num_vars s) 16384 h in
-      scalars_fit s _ f (write _ 5 0 (λ q. omega arith) (write _ 4 _ (small_pick (eqb (verdict s) 1) 0 (verdict s) (λ q. omega arith) (entry s.scalars 4 f.0))
-      (write s.scalars 0 (num_vars s + 1) (λ q. omega arith) f.0))))
+      pick_both FitsAfter (too_late s) _ _ (λ k. f)
+      (λ k. scalars_fit s _ f (write _ 5 0 (λ q. omega arith) (write _ 4 _ (small_pick (eqb (verdict s) 1) 0 (verdict s) (λ q. omega arith) (entry s.scalars 4 f.0))
+      (write s.scalars 0 (num_vars s + 1) (λ q. omega arith) f.0)))))
       (λ h. f)
   command_fits s (add c) f =
       pick_both FitsAfter (lits_fit c && leb (length c) 1024) _ _
@@ -149,7 +162,9 @@ module _ (Q : Type 0) where
       pick_both FitsAfter (clause_fits s c) _ _
       (λ k. let r = and_parts (leb (num_clauses s + 1) 16384) (leb (arena_len s - num_clauses s + length c) 65536) k in
       let r₀ : num_clauses s + 1 ≤ 16384 = leb-true _ _ r.0 in
-      let r₁ : arena_len s - num_clauses s + length c ≤ 65536 = leb-true _ _ r.1 in (
+      let r₁ : arena_len s - num_clauses s + length c ≤ 65536 = leb-true _ _ r.1 in
+      pick_both FitsAfter (too_late s) _ _ (λ j. f)
+      (λ j. (
         write _ 5 0 (λ q. omega arith) (write _ 4 _ (small_pick (leb 2 (verdict s)) (verdict s) 0 (entry s.scalars 4 f.0) (λ q. omega arith))
             (write _ 2 (arena_len s + (length c + 1)) (λ q. omega arith) (write _ 1 (num_clauses s + 1) (λ q. omega arith)
             (write _ 7 (larger (clause_vars s) (row_vars c)) (larger_small s 7 (row_vars c) f (row_few c p.0))
@@ -159,13 +174,15 @@ module _ (Q : Type 0) where
         f.3,
         write_row s.arena (arena_len s) (clause_row c) (clause_row_few c p.0 l) f.4,
         f.5,
-      ))
+      )))
       (λ k. f))
       (λ h. f)
   command_fits s (assume ls) f =
       pick_both FitsAfter (lits_fit ls && leb (length ls) 1024) _ _
       (λ h. let p = and_parts (lits_fit ls) (leb (length ls) 1024) h in
-      let l : length ls ≤ 1024 = leb-true _ _ p.1 in (
+      let l : length ls ≤ 1024 = leb-true _ _ p.1 in
+      pick_both FitsAfter (proves s) _ _ (λ k. f)
+      (λ k. (
         write _ 5 0 (λ q. omega arith) (write _ 4 _ (small_pick (eqb (verdict s) 3) 3 0 (λ q. omega arith) (λ q. omega arith))
             (write _ 3 (length ls) (λ q. omega arith)
             (write s.scalars 0 (larger (num_vars s) (row_vars ls)) (larger_small s 0 (row_vars ls) f (row_few ls p.0)) f.0))),
@@ -174,7 +191,7 @@ module _ (Q : Type 0) where
         f.3,
         f.4,
         f.5,
-      ))
+      )))
       (λ h. f)
   command_fits s solve f =
       pick_both FitsAfter (eqb (verdict s) 0) _ _
@@ -195,24 +212,38 @@ module _ (Q : Type 0) where
       (λ h. scalars_fit s _ f (write _ 5 3 (λ q. omega arith) (write s.scalars 6 0 (λ q. omega arith) f.0)))
       (λ h. pick_both FitsAfter (eqb (verdict s) 3) _ _ (λ k. rests_fit s f) (λ k. f))
   command_fits s (read_file bs) f =
-      pick_both FitsAfter (file_fits bs) _ _
+      pick_both FitsAfter (too_late s) _ _ (λ k. f)
+      (λ k. pick_both FitsAfter (file_fits bs) _ _
       (λ h. outcome_fits (with_arena s (table_after s.arena (arena_len s) bs)) (file_read bs) (file_sound bs h)
       (f.0, f.1, f.2, f.3, arena_fits s.arena (arena_len s) bs h f.4, f.5))
-      (λ h. f)
+      (λ h. f))
   command_fits s print_it f =
       scalars_fit s _ f
       (write _ 5 4 (λ q. omega arith) (write _ 9 (num_clauses s) (entry s.scalars 1 f.0) (write _ 8 0 (λ q. omega arith)
       (write s.scalars 6 0 (λ q. omega arith) f.0))))
-  command_fits s prove f = f
+  command_fits s prove f =
+      pick_both FitsAfter (untouched s) _ _
+      (λ h. scalars_fit s _ f (write _ 5 0 (λ q. omega arith) (write _ 4 0 (λ q. omega arith) (write s.scalars 13 1 (λ q. omega arith) f.0)))) (λ h. f)
+
+  turn_fits : (s : State) (x : Finding) → Fits Q s → Fits Q (with_turn s x)
+  turn_fits s x f = (f.0, f.1, mark_fits s.core x f.2, f.3, f.4, turned_fits s.arena (assumed s) s.work x f.5)
+
+  no_fits : (s : State) → Fits Q s → FitsAfter (answered_no s)
+  no_fits s f =
+      scalars_fit s _ f (write _ 5 0 (λ q. omega arith)
+      (write s.scalars 4 _ (small_pick (none_of (marked s.core (assumed s))) 3 2 (λ q. omega arith) (λ q. omega arith)) f.0))
 
   searched_fits : (s : State) (x : Finding) → Fits Q s → FitsAfter (searched s x)
   searched_fits s Exhausted f =
-      scalars_fit s _ f (write _ 5 0 (λ q. omega arith)
-      (write s.scalars 4 _ (small_pick (none_of (marked s.core (assumed s))) 3 2 (λ q. omega arith) (λ q. omega arith)) f.0))
-  searched_fits s Back f = (f.0, f.1, mark_fits s.core Back f.2, f.3, f.4, act_fits s.work Back f.5)
-  searched_fits s Conflict f = (f.0, f.1, mark_fits s.core Conflict f.2, f.3, f.4, act_fits s.work Conflict f.5)
-  searched_fits s (Failed i) f = (f.0, f.1, mark_fits s.core (Failed i) f.2, f.3, f.4, act_fits s.work (Failed i) f.5)
-  searched_fits s Open f = (f.0, f.1, mark_fits s.core Open f.2, f.3, f.4, act_fits s.work Open f.5)
+      pick_both FitsAfter (proves s) _ _ (λ h. scalars_fit s _ f (write s.scalars 5 7 (λ q. omega arith) f.0)) (λ h. no_fits s f)
+  searched_fits s Back f = turn_fits s Back f
+  searched_fits s Flip f = turn_fits s Flip f
+  searched_fits s Learned f =
+      pick_both FitsAfter (proves s) _ _
+      (λ h. scalars_fit s _ f (write _ 5 6 (λ q. omega arith) (write s.scalars 6 (last_var s.work) (λ q. omega arith) f.0))) (λ h. turn_fits s Learned f)
+  searched_fits s (Conflict p) f = turn_fits s (Conflict p) f
+  searched_fits s (Failed i) f = turn_fits s (Failed i) f
+  searched_fits s Open f = turn_fits s Open f
   searched_fits s Full f = (
     write _ 5 0 (λ q. omega arith) (write s.scalars 4 1 (λ q. omega arith) f.0),
     f.1,
@@ -254,15 +285,32 @@ module _ (Q : Type 0) where
   telling_fits s f =
       pick_both FitsAfter (eqb (pending s) 1) _ _ (λ h. scalars_fit s _ f (write s.scalars 10 0 (λ q. omega arith) f.0)) (λ h. rests_fit s f)
 
+  writing_fits : (s : State) → Fits Q s → FitsAfter (writing s)
+  writing_fits s f =
+      pick_both FitsAfter (eqb (cursor s) 0) _ _
+      (λ h. let g = turn_fits s Learned f in scalars_fit (with_turn s Learned) _ g (write s.scalars 5 1 (λ q. omega arith) g.0))
+      (λ h. scalars_fit s _ f (write s.scalars 6 (cursor s - 1) (λ q. let a = entry s.scalars 6 f.0 q in omega arith) f.0))
+
+  next_fits : (s : State) → Fits Q s → FitsAfter (on_next s)
+  next_fits s f =
+      let y₇ : Turn = pick (eqb (phase s) 7) (answered_no s) (turn s done) in
+      let y₆ : Turn = pick (eqb (phase s) 6) (writing s) y₇ in
+      let y₅ : Turn = pick (eqb (phase s) 5) (telling s) y₆ in
+      let y₄ : Turn = pick (eqb (phase s) 4) (printing s) y₅ in
+      let y₃ : Turn = pick (eqb (phase s) 3) (showing_core s) y₄ in
+      let y₂ : Turn = pick (eqb (phase s) 2) (showing s) y₃ in
+      pick_both FitsAfter (eqb (phase s) 1) (searching s) y₂ (λ h. searched_fits s (look (formula s) (assumed s) (num_vars s) s.work) f)
+      (λ h. pick_both FitsAfter (eqb (phase s) 2) (showing s) y₃ (λ k. showing_fits s f)
+      (λ k. pick_both FitsAfter (eqb (phase s) 3) (showing_core s) y₄ (λ j. core_fits s f)
+      (λ j. pick_both FitsAfter (eqb (phase s) 4) (printing s) y₅ (λ i. printing_fits s f)
+      (λ i. pick_both FitsAfter (eqb (phase s) 5) (telling s) y₆ (λ g. telling_fits s f)
+      (λ g. pick_both FitsAfter (eqb (phase s) 6) (writing s) y₇ (λ e. writing_fits s f)
+      (λ e. pick_both FitsAfter (eqb (phase s) 7) (answered_no s) (turn s done) (λ c. no_fits s f) (λ c. f)))))))
+
   event_fits : (s : State) (ev : Event) → Fits Q s → FitsAfter (on_event s ev)
   unfolding on_event
   event_fits s (said c) f = command_fits s c f
-  event_fits s next f =
-      pick_both FitsAfter (eqb (phase s) 1) _ _ (λ h. searched_fits s (look (formula s) (assumed s) (num_vars s) s.work) f)
-      (λ h. pick_both FitsAfter (eqb (phase s) 2) _ _ (λ k. showing_fits s f)
-      (λ k. pick_both FitsAfter (eqb (phase s) 3) _ _ (λ j. core_fits s f)
-      (λ j. pick_both FitsAfter (eqb (phase s) 4) _ _ (λ i. printing_fits s f)
-      (λ i. pick_both FitsAfter (eqb (phase s) 5) _ _ (λ g. telling_fits s f) (λ g. f)))))
+  event_fits s next f = next_fits s f
 
   -- IN MEMORY
   fits_sized : (s : State) → Fits Q s → Sized s
@@ -283,8 +331,8 @@ module _ (Q : Type 0) where
       (every_append few s.model _ (f.3.small q) (every_append few s.arena s.work (f.4.small q) (f.5.small q)))))
 
 -- lengths alone
-pub length_act : {n : ℕ} (w : List ℕ) (f : Finding) → length w ≡ n → length (plain.act w f) ≡ n
-length_act w f l = (act_fits ⊥ w f (record { long = l; small = λ q. absurd q })).long
+pub length_turned : {n : ℕ} (arena as₁ w : List ℕ) (f : Finding) → length w ≡ n → length (turned arena as₁ w f) ≡ n
+length_turned arena as₁ w f l = (turned_fits ⊥ arena as₁ w f (record { long = l; small = λ q. absurd q })).long
 
 pub length_mark : {n : ℕ} (ks : List ℕ) (f : Finding) → length ks ≡ n → length (mark ks f) ≡ n
 length_mark ks f l = (mark_fits ⊥ ks f (record { long = l; small = λ q. absurd q })).long

@@ -9,14 +9,14 @@ use Rattle.dimacs.specs.Text.{file_read}
 use Rattle.dimacs.specs.Statements.{lits_fit}
 use Rattle.dimacs.specs.Scan.{Outcome, Formula, Wrong, table_after, outcome_of}
 use Rattle.search.specs.declared.plain.Finding.{Finding}
-use Rattle.search.specs.declared.plain.Finding.TheVariants.{Exhausted, Back, Conflict, Failed, Open, Full}
+use Rattle.search.specs.declared.plain.Finding.TheVariants.{Exhausted, Back, Flip, Learned, Conflict, Failed, Open, Full}
 use Rattle.search.specs.Plain.{look}
 use Rattle.solver.specs.declared.Told.{Told}
 use Rattle.solver.specs.declared.Told.TheVariants.{No}
 use Rattle.solver.specs.House.{new_var, add, assume, solve, model_of, failed_core, read_file, print_it, prove}
 use Rattle.solver.specs.Promise.{Event, said, next, Act, shows, writes, done, refused}
 use Rattle.solver.specs.State.{State, view, flat, zeros, with_arena, num_vars, num_assumptions, arena_len, verdict, phase, cursor, lits_left, clauses_left, pending, ending, formula, assumed}
-use Rattle.solver.specs.Machine.{Turn, on_new_var, on_add, on_assume, on_solve, on_model, on_core, on_read, on_outcome, clause_fits, counts_fit, file_fits, on_command, on_next, searched, searching, showing, showing_core, printing, telling, on_event, machine_step}
+use Rattle.solver.specs.Machine.{Turn, on_new_var, on_add, on_assume, on_solve, on_model, on_core, on_read, on_outcome, on_prove, proves, too_late, untouched, clause_fits, counts_fit, file_fits, on_command, on_next, searched, showing, showing_core, printing, telling, on_event, machine_step}
 use Rattle.solver.specs.Entry.{own, event_of, ActTold, StepSays, step_fits}
 use Rattle.solver.specs.Coded.{Sized, Takes, told, written_to}
 use Rattle.solver.proofs.MemoryMap.{flat_view}
@@ -90,13 +90,13 @@ pick_quiet false x y p q = q
 
 module _ (s : State) where
   pub new_var_quiet : quiet (on_new_var s).act ≡ true
-  new_var_quiet = pick_quiet (ltb (num_vars s) 16384) _ _ refl refl
+  new_var_quiet = pick_quiet (ltb (num_vars s) 16384) _ _ (pick_quiet (too_late s) _ _ refl refl) refl
 
   pub add_quiet : (c : Clause) → quiet (on_add s c).act ≡ true
-  add_quiet c = pick_quiet (lits_fit c && leb (length c) 1024) _ _ (pick_quiet (clause_fits s c) _ _ refl refl) refl
+  add_quiet c = pick_quiet (lits_fit c && leb (length c) 1024) _ _ (pick_quiet (clause_fits s c) _ _ (pick_quiet (too_late s) _ _ refl refl) refl) refl
 
   pub assume_quiet : (ls : List ℕ) → quiet (on_assume s ls).act ≡ true
-  assume_quiet ls = pick_quiet (lits_fit ls && leb (length ls) 1024) _ _ refl refl
+  assume_quiet ls = pick_quiet (lits_fit ls && leb (length ls) 1024) _ _ (pick_quiet (proves s) _ _ refl refl) refl
 
   pub solve_quiet : quiet (on_solve s).act ≡ true
   unfolding none_of
@@ -106,17 +106,8 @@ module _ (s : State) where
   unfolding none_of
   model_quiet = pick_quiet (eqb (verdict s) 1) _ _ refl refl
 
-  searched_quiet : (f : Finding) → quiet (searched s f).act ≡ true
-  unfolding none_of
-  searched_quiet Exhausted = refl
-  searched_quiet Back = refl
-  searched_quiet Conflict = refl
-  searched_quiet (Failed i) = refl
-  searched_quiet Open = refl
-  searched_quiet Full = refl
-
-  pub searching_quiet : quiet (searching s).act ≡ true
-  searching_quiet = searched_quiet (look (formula s) (assumed s) (num_vars s) s.work)
+  pub prove_quiet : quiet (on_prove s).act ≡ true
+  prove_quiet = pick_quiet (untouched s) _ _ refl refl
 
   pub showing_quiet : quiet (showing s).act ≡ true
   showing_quiet = pick_quiet (ltb (cursor s) (num_vars s)) _ _ refl refl
@@ -144,7 +135,7 @@ module _ (s : State) where
 
 pub read_quiet : (s : State) (bytes : List ℕ) → quiet (on_read s bytes).act ≡ true
 read_quiet s bytes =
-    pick_quiet (file_fits bytes) _ _ (outcome_quiet (with_arena s (table_after s.arena (arena_len s) bytes)) (outcome_of (file_read bytes))) refl
+    pick_quiet (too_late s) _ _ refl (pick_quiet (file_fits bytes) _ _ (outcome_quiet (with_arena s (table_after s.arena (arena_len s) bytes)) (outcome_of (file_read bytes))) refl)
 
 -- a refusal has a number below 1,000, whatever is said
 abbrev pub fair : Act → Bool
@@ -165,10 +156,21 @@ pick_fair false x y p q = q
 
 next_fair : (s : State) → fair (on_next s).act ≡ true
 next_fair s =
-    pick_fair (eqb (phase s) 1) _ _ (quiet_fair (searching s).act (searching_quiet s)) (pick_fair (eqb (phase s) 2) _ _ (quiet_fair (showing s).act (showing_quiet s))
+    pick_fair (eqb (phase s) 1) _ _ (searched_fair (look (formula s) (assumed s) (num_vars s) s.work)) (pick_fair (eqb (phase s) 2) _ _ (quiet_fair (showing s).act (showing_quiet s))
     (pick_fair (eqb (phase s) 3) _ _ (quiet_fair (showing_core s).act (showing_core_quiet s)) (pick_fair (eqb (phase s) 4) _ _ (printing_fair s)
-    (pick_fair (eqb (phase s) 5) _ _ (quiet_fair (telling s).act (telling_quiet s)) refl))))
+    (pick_fair (eqb (phase s) 5) _ _ (quiet_fair (telling s).act (telling_quiet s)) (pick_fair (eqb (phase s) 6) _ _ (pick_fair (eqb (cursor s) 0) _ _ refl refl)
+    (pick_fair (eqb (phase s) 7) _ _ refl refl))))))
   where
+    searched_fair : (f : Finding) → fair (searched s f).act ≡ true
+    searched_fair Exhausted = pick_fair (proves s) _ _ refl refl
+    searched_fair Back = refl
+    searched_fair Flip = refl
+    searched_fair Learned = pick_fair (proves s) _ _ refl refl
+    searched_fair (Conflict p) = refl
+    searched_fair (Failed i) = refl
+    searched_fair Open = refl
+    searched_fair Full = refl
+
     printing_fair : (s : State) → fair (printing s).act ≡ true
     printing_fair s = pick_fair (eqb (clauses_left s) 0) _ _ refl (pick_fair (eqb (lits_left s) 0) _ _ refl (pick_fair (eqb (lits_left s) 1) _ _ refl refl))
 
@@ -182,7 +184,7 @@ event_fair s (said model_of) = quiet_fair (on_model s).act (model_quiet s)
 event_fair s (said failed_core) = quiet_fair (on_core s).act (core_quiet s)
 event_fair s (said (read_file bs)) = quiet_fair (on_read s bs).act (read_quiet s bs)
 event_fair s (said print_it) = refl
-event_fair s (said prove) = refl
+event_fair s (said prove) = quiet_fair (on_prove s).act (prove_quiet s)
 event_fair s next = next_fair s
 
 pub own_fair : (m : List ℕ) (ev : Event) → fair (own.step m ev).act ≡ true

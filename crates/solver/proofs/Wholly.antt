@@ -1,15 +1,15 @@
 -- The main promise of the machine, given that plain search ends.
 -- The start is at rest with the empty house; all commands, one after another, answer rightly; and the memory is steady.
 use Rattle.std.proofs.Common.{◌≡◌, ℕ, false, List, [], ◌++◌, refl, ap, ◌∙◌, arith}
+use mathlib.Core.Bool.{false≢true}
 use Rattle.formula.specs.Logic.{every, added_up}
 use Rattle.search.specs.Ends.{SearchEnds}
-use Rattle.solver.specs.House.{House, house}
-use Rattle.solver.specs.Known.{all_but_proofs}
+use Rattle.solver.specs.House.{House, house, everything}
 use Rattle.dimacs.specs.Text.{vars_of}
 use Rattle.solver.specs.Promise.{Whole}
 use Rattle.solver.specs.State.{State, state, flat, zeros}
 use Rattle.solver.specs.Entry.{own}
-use Rattle.solver.proofs.Layouts.{length_zeros, zeros_thirteen, zeros_append}
+use Rattle.solver.proofs.Layouts.{length_zeros, zeros_fourteen, zeros_append}
 use Rattle.solver.proofs.Steadies.{steady}
 use Rattle.formula.specs.Arena.{rows_of}
 use Rattle.solver.proofs.Invariant.{resting, AtRest, unsolved, right}
@@ -29,7 +29,7 @@ start_flat =
     ∙ ap (λ (x : List ℕ). zeros 1024 ++ x) (zeros_append 1024 521984
     ∙ ap (λ (x : List ℕ). zeros 1024 ++ x) (zeros_append 16384 505600
     ∙ ap (λ (x : List ℕ). zeros 16384 ++ x) (zeros_append 81920 423680))))
-    ∙ ap (λ (x : List ℕ). x ++ (zeros 1024 ++ (zeros 1024 ++ (zeros 16384 ++ (zeros 81920 ++ zeros 423680))))) (zeros_thirteen 243)
+    ∙ ap (λ (x : List ℕ). x ++ (zeros 1024 ++ (zeros 1024 ++ (zeros 16384 ++ (zeros 81920 ++ zeros 423680))))) (zeros_fourteen 242)
 
 pub starts : AtRest own.start empty
 unfolding own added_up rows_of every
@@ -54,10 +54,10 @@ starts = (
     clauses_below = refl;
     assumed_below = refl;
     tells = unsolved refl;
-    not_proving = refl;
+    while_proving = λ p. absurd (false≢true p);
   },
 )
 
-pub whole : SearchEnds → Whole all_but_proofs own
+pub whole : SearchEnds → Whole everything own
 unfolding Whole
-whole ends = (steady, λ cs few small. right all_but_proofs (λ m h c sm. answers ends m h c (small_bytes c sm)) cs small own.start empty starts)
+whole ends = (steady, λ cs few small. right everything (λ m h c sm. answers ends m h c (small_bytes c sm)) cs small own.start empty starts)

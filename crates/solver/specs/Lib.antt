@@ -1,5 +1,4 @@
 pub mod House
-pub mod Known
 pub mod Promise
 pub mod PrintBack
 pub mod State

@@ -1,7 +1,7 @@
 -- Where the scalars lie in their table, by name. Definitions only.
 use Rattle.std.specs.Prelude.{ℕ}
 use Rattle.solver.specs.declared.scalar.Scalar.{Scalar}
-use Rattle.solver.specs.declared.scalar.Scalar.TheVariants.{NumVars, NumClauses, ArenaLen, NumAssumptions, Verdict, Phase, Cursor, ClauseVars, LitsLeft, ClausesLeft, Pending, PendingNumber, Ending}
+use Rattle.solver.specs.declared.scalar.Scalar.TheVariants.{NumVars, NumClauses, ArenaLen, NumAssumptions, Verdict, Phase, Cursor, ClauseVars, LitsLeft, ClausesLeft, Pending, PendingNumber, Ending, Proving}
 
 abbrev pub place_of : Scalar → ℕ
 place_of NumVars = 0
@@ -17,3 +17,4 @@ place_of ClausesLeft = 9
 place_of Pending = 10
 place_of PendingNumber = 11
 place_of Ending = 12
+place_of Proving = 13

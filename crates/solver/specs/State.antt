@@ -68,11 +68,12 @@ num_assumptions s = scalar s 3
 abbrev pub verdict : State → ℕ
 verdict s = scalar s 4
 
--- 0 at rest, 1 searching, 2 showing the model, 3 showing the core, 4 printing, 5 telling what came of a file
+-- 0 at rest, 1 searching, 2 showing the model, 3 showing the core, 4 printing, 5 telling what came of a file, 6 writing a clause that is
+-- learned, 7 answering no when the proof is written
 abbrev pub phase : State → ℕ
 phase s = scalar s 5
 
--- how far showing or printing has come: a variable, an assumption's place, a place in the arena
+-- how far showing or printing has come: a variable, an assumption's place, a place in the arena; of a learned clause, the variables left
 abbrev pub cursor : State → ℕ
 cursor s = scalar s 6
 
@@ -96,6 +97,10 @@ pending_number s = scalar s 11
 
 abbrev pub ending : State → ℕ
 ending s = scalar s 12
+
+-- 1 if proofs are written
+abbrev pub proving : State → ℕ
+proving s = scalar s 13
 
 abbrev pub with_num_vars : State → ℕ → State
 with_num_vars s v = with_scalar s 0 v
@@ -135,6 +140,9 @@ with_pending_number s v = with_scalar s 11 v
 
 abbrev pub with_ending : State → ℕ → State
 with_ending s v = with_scalar s 12 v
+
+abbrev pub with_proving : State → ℕ → State
+with_proving s v = with_scalar s 13 v
 
 -- what they stand for
 abbrev pub formula : State → List Clause

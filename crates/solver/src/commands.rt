@@ -7,7 +7,7 @@ ghost use Rattle.dimacs.specs.Text.{row_vars};
 ghost use Rattle.dimacs.specs.Statements.{lits_fit};
 ghost use Rattle.dimacs.specs.Scan.{Formula, Wrong, refusal_told};
 ghost use Rattle.solver.specs.State.{view, num_vars, num_clauses, arena_len};
-ghost use Rattle.solver.specs.Machine.{on_new_var, on_add, on_assume, on_solve, on_model, on_core, on_print, on_read, on_outcome, clause_fits};
+ghost use Rattle.solver.specs.Machine.{on_new_var, on_add, on_assume, on_solve, on_model, on_core, on_print, on_read, on_outcome, on_prove, clause_fits, too_late, untouched};
 ghost use Rattle.solver.specs.Coded.{Takes, TakesAndWrites, enlarged, tells};
 
 use crate::going::finish;
@@ -65,6 +65,13 @@ fn only_never(verdict: u64) -> u64
     if verdict == NEVER { NEVER } else { UNKNOWN }
 }
 
+// Whether a proof is written and it's solved: then the clauses stay as they are.
+fn is_too_late(m: &Memory) -> bool
+    ensures { result ≡ too_late (view m.now) }
+{
+    is_proving(m) && read(m, Scalar::Verdict) != UNKNOWN
+}
+
 // The number of the next variable, if there is room for one.
 fn next_var(m: &Memory) -> Option<u64>
     ensures number { result ≡ pick (nat_lt (num_vars (view m.now)) 16384) (Some (num_vars (view m.now))) None }
@@ -80,6 +87,9 @@ pub fn new_var(m: &mut Memory) -> Told
     let Some(vars) = next_var(m) else {
         return Refusal::NoRoom.into();
     };
+    if is_too_late(m) {
+        return Refusal::TooLate.into();
+    }
     let verdict = without_yes(read(m, Scalar::Verdict));
     write(m, Scalar::NumVars, vars + 1);
     write(m, Scalar::Verdict, verdict);
@@ -135,6 +145,9 @@ pub fn add(m: &mut Memory, clause: &[u64]) -> Told
     let Some(place) = free_place(m, clause) else {
         return Refusal::NoRoom.into();
     };
+    if is_too_late(m) {
+        return Refusal::TooLate.into();
+    }
     let one = Counts {
         clauses: 1,
         literals: place.len,
@@ -177,6 +190,9 @@ pub fn assume(m: &mut Memory, row: &[u64]) -> Told
     let Some(vars) = checked_row(row) else {
         return Refusal::BadRow.into();
     };
+    if is_proving(m) {
+        return Refusal::TooLate.into();
+    }
     let vars = read(m, Scalar::NumVars).max(vars);
     let verdict = only_never(read(m, Scalar::Verdict));
     change(m, Table::Assumptions, |table| write_row(table, 0, row));
@@ -219,6 +235,9 @@ pub fn read_in(m: &mut Memory, bytes: &[u8]) -> Told
     requires { length bytes.now ≤ 1048576 }
     ensures { Takes (on_read (view m.old) bytes.now) m.new result }
 {
+    if is_too_late(m) {
+        return Refusal::TooLate.into();
+    }
     let start = read(m, Scalar::ArenaLen);
     match read_file(m, bytes, start) {
         Ok(counts) => take_clauses(m, counts),
@@ -255,4 +274,26 @@ fn take_clauses(m: &mut Memory, counts: Counts) -> Told
     let vars = read(m, Scalar::ClauseVars);
     let clauses = read(m, Scalar::NumClauses);
     tell(m, vars, Some(clauses), 0)
+}
+
+// Whether there is nothing yet that a proof would have to speak of.
+fn is_untouched(m: &Memory) -> bool
+    ensures { result ≡ untouched (view m.now) }
+{
+    read(m, Scalar::NumClauses) == 0
+        && read(m, Scalar::NumAssumptions) == 0
+        && read(m, Scalar::NumVars) == 0
+        && !is_proving(m)
+}
+
+// From now on each solving writes a proof.
+pub fn prove(m: &mut Memory) -> Told
+    ensures { Takes (on_prove (view m.old)) m.new result }
+{
+    if !is_untouched(m) {
+        return Refusal::TooLate.into();
+    }
+    write(m, Scalar::Proving, 1);
+    write(m, Scalar::Verdict, UNKNOWN);
+    finish(m)
 }

@@ -4,7 +4,7 @@ ghost use Rattle.std.specs.Prelude.{◌≡◌, min};
 ghost use Rattle.std.proofs.lemmas.List.Edits.{sets};
 ghost use Rattle.search.specs.Plain.{model_row};
 ghost use Rattle.solver.specs.State.{view, num_vars, with_model, with_phase};
-ghost use Rattle.solver.specs.Machine.{turn, on_next, searching, showing, showing_core, printing, telling, answered_no, answered_yes, with_turn};
+ghost use Rattle.solver.specs.Machine.{turn, on_next, searching, learns, writing, ended_no, showing, showing_core, printing, telling, answered_no, answered_yes, with_turn};
 ghost use Rattle.solver.specs.Promise.{done};
 ghost use Rattle.solver.specs.Coded.{Takes, TakesAndWrites};
 
@@ -14,18 +14,21 @@ use crate::scalar::Scalar;
 use crate::tables::*;
 use crate::{Buffer, Told};
 use dimacs::write::{put_end, put_literal};
+use formula::table::get;
 use search::plain;
-use search::plain::{Finding, look, model_literal, some_marked};
+use search::plain::{Finding, last_var, learned_literal, look, model_literal, some_marked};
 
 pub fn go_on(m: &mut Memory, out: &mut Buffer) -> Told
     ensures { TakesAndWrites (on_next (view m.old)) m.new result out.old out.new }
 {
     match Phase::from(read(m, Scalar::Phase)) {
-        Phase::Searching => search_on(m),
+        Phase::Searching => search_on(m, out),
         Phase::Showing => show_literal(m),
         Phase::ShowingCore => show_core(m),
         Phase::Printing => print_on(m, out),
         Phase::Telling => tell_on(m),
+        Phase::Writing => write_learned(m, out),
+        Phase::Answering => answer_no(m),
         Phase::Resting => Told::Done,
     }
 }
@@ -117,8 +120,8 @@ fn tell_on(m: &mut Memory) -> Told
 }
 
 // A turn of the search, and the answer if it is the last.
-fn search_on(m: &mut Memory) -> Told
-    ensures { Takes (searching (view m.old)) m.new result }
+fn search_on(m: &mut Memory, out: &mut Buffer) -> Told
+    ensures { TakesAndWrites (searching (view m.old)) m.new result out.old out.new }
 {
     let finding = look(
         table_in(m, Table::Arena),
@@ -128,7 +131,8 @@ fn search_on(m: &mut Memory) -> Told
         table_in(m, Table::Work),
     );
     match finding {
-        Finding::Exhausted => answer_no(m),
+        Finding::Exhausted => end_search(m, out),
+        Finding::Learned => learn(m),
         Finding::Full => answer_yes(m),
         _ => {
             take_turn(m, finding);
@@ -137,15 +141,64 @@ fn search_on(m: &mut Memory) -> Told
     }
 }
 
-// The values change, and an assumption that failed is marked for the core.
-#[tactic(auto, unfolding(search::specs::Plain::mark))]
+// The values change, what is to blame is seen, and an assumption that failed is marked for the core.
+#[tactic(auto, unfolding(search::specs::Plain::mark, search::specs::Plain::blamed, search::specs::Plain::see))]
 fn take_turn(m: &mut Memory, finding: Finding)
     ensures { view m.new ≡ with_turn (view m.old) finding }
 {
     change(m, Table::Work, |work| plain::act(work, finding));
-    if let Finding::Failed(place) = finding {
-        put_in(m, Table::Core, place, MARKED);
+    match finding {
+        Finding::Conflict(place) => see_clause(m, place),
+        Finding::Failed(place) => {
+            let lit = get(assumed_literals(m), place);
+            change(m, Table::Work, |work| plain::see(work, &[lit]));
+            put_in(m, Table::Core, place, MARKED);
+        }
+        _ => {}
     }
+}
+
+// The turn is taken at once if no proof is written, else when the clause is.
+fn learn(m: &mut Memory) -> Told
+    ensures { Takes (learns (view m.old)) m.new result }
+{
+    if !is_proving(m) {
+        take_turn(m, Finding::Learned);
+        return Told::Writes(0);
+    }
+    let last = last_var(table_in(m, Table::Work));
+    write(m, Scalar::Cursor, last);
+    set_phase(m, Phase::Writing);
+    Told::Writes(0)
+}
+
+// The next variable of a learned clause, and then the turn.
+fn write_learned(m: &mut Memory, out: &mut Buffer) -> Told
+    ensures { TakesAndWrites (writing (view m.old)) m.new result out.old out.new }
+{
+    let left = read(m, Scalar::Cursor);
+    if left == 0 {
+        take_turn(m, Finding::Learned);
+        set_phase(m, Phase::Searching);
+        return Told::Writes(put_end(out));
+    }
+    let part = learned_literal(table_in(m, Table::Work), left - 1);
+    write(m, Scalar::Cursor, left - 1);
+    match part {
+        Some(lit) => Told::Writes(put_literal(lit, out)),
+        None => Told::Writes(0),
+    }
+}
+
+// A proof ends with the empty clause, before the answer.
+fn end_search(m: &mut Memory, out: &mut Buffer) -> Told
+    ensures { TakesAndWrites (ended_no (view m.old)) m.new result out.old out.new }
+{
+    if !is_proving(m) {
+        return answer_no(m);
+    }
+    set_phase(m, Phase::Answering);
+    Told::Writes(put_end(out))
 }
 
 // A no holds whatever is assumed if no assumption had a part in it.

@@ -3,7 +3,7 @@
 #![tactic(auto)]
 
 ghost use Rattle.std.specs.Prelude.{◌≡◌, ◌≤◌, ◌&&◌, length, replicate, nat_le};
-ghost use Rattle.solver.specs.Known.{all_but_proofs};
+ghost use Rattle.solver.specs.House.{everything};
 ghost use Rattle.solver.specs.Promise.{Whole};
 ghost use Rattle.solver.specs.PrintBack.{PrintsBack};
 ghost use Rattle.solver.specs.Entry.{own, TermSays, term_fits, smaller, term, StepSays, step_fits, event_of};
@@ -100,7 +100,7 @@ fn term_of(n: u64) -> u64
 
 // The machine's promises, over every list of commands.
 fn promises()
-    ensures whole { Whole all_but_proofs own }
+    ensures whole { Whole everything own }
     ensures printed { PrintsBack own }
 {}
 
@@ -108,7 +108,7 @@ fn promises()
 // what it was.
 pub fn begin(memory: &mut [u64])
     ensures cleared { memory.new ≡ replicate (length memory.old) 0 }
-    ensures whole { Whole all_but_proofs own }
+    ensures whole { Whole everything own }
     ensures printed { PrintsBack own }
 {
     clear(memory);
@@ -137,7 +137,7 @@ fn take(m: &mut Memory, kind: Kind, row: &[u64], bytes: &[u8], out: &mut Buffer)
         Kind::Core => commands::core(m),
         Kind::Read => commands::read_in(m, bytes),
         Kind::Print => commands::print(m, out),
-        Kind::Prove => Refusal::NoProofs.into(),
+        Kind::Prove => commands::prove(m),
         Kind::GoOn => going::go_on(m, out),
     }
 }

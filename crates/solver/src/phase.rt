@@ -11,6 +11,8 @@ pub enum Phase {
     ShowingCore,
     Printing,
     Telling,
+    Writing,
+    Answering,
 }
 
 impl From<Phase> for u64 {
@@ -24,6 +26,8 @@ impl From<Phase> for u64 {
             Phase::ShowingCore => 3,
             Phase::Printing => 4,
             Phase::Telling => 5,
+            Phase::Writing => 6,
+            Phase::Answering => 7,
         }
     }
 }
@@ -38,6 +42,8 @@ impl From<u64> for Phase {
             3 => Phase::ShowingCore,
             4 => Phase::Printing,
             5 => Phase::Telling,
+            6 => Phase::Writing,
+            7 => Phase::Answering,
             _ => Phase::Resting,
         }
     }

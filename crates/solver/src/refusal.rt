@@ -12,14 +12,14 @@ pub enum Refusal {
     NoStep,
     // There are terms after the last that is told.
     PastTheLast,
-    // This machine writes no proofs.
-    NoProofs,
     // It isn't known that it is so.
     NotKnown,
     // A literal is too large, or there are too many.
     BadRow,
     // There would be more variables, clauses or literals than there is room for.
     NoRoom,
+    // A proof is on and it's too late for this, or it's too late to begin one.
+    TooLate,
 }
 
 impl From<Refusal> for u64 {
@@ -29,10 +29,10 @@ impl From<Refusal> for u64 {
         match refusal {
             Refusal::NoStep => 0,
             Refusal::PastTheLast => 1,
-            Refusal::NoProofs => 2,
             Refusal::NotKnown => 4,
             Refusal::BadRow => 6,
             Refusal::NoRoom => 7,
+            Refusal::TooLate => 8,
         }
     }
 }

@@ -21,6 +21,8 @@ pub enum Scalar {
     PendingNumber,
     // 0 if all is well, else the number of a refusal.
     Ending,
+    // 1 from `prove` on.
+    Proving,
 }
 
 impl Scalar {
@@ -41,6 +43,7 @@ impl Scalar {
             Scalar::Pending => 10,
             Scalar::PendingNumber => 11,
             Scalar::Ending => 12,
+            Scalar::Proving => 13,
         }
     }
 }

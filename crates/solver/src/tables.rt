@@ -1,10 +1,11 @@
 // The memory map: where each table lies, how it is read and how it is written.
 // Each write promises the view of the memory with that one table changed.
-ghost use Rattle.std.specs.Prelude.{◌≡◌, List, ℕ, slice_index, slice_set};
+ghost use Rattle.std.specs.Prelude.{◌≡◌, ◌==◌, List, ℕ, take, drop, slice_index, slice_set};
 ghost use Rattle.std.specs.Fn.{FnOnceReturnsAtMut};
+ghost use Rattle.search.specs.Plain.{see};
 ghost use Rattle.dimacs.specs.Text.{file_read};
 ghost use Rattle.dimacs.specs.Scan.{table_after, outcome_of, outcome_told};
-ghost use Rattle.solver.specs.State.{view, zeros, scalar, with_scalar, with_phase, with_core, with_arena, assumed};
+ghost use Rattle.solver.specs.State.{view, zeros, scalar, proving, with_scalar, with_phase, with_core, with_arena, with_work, assumed};
 ghost use Rattle.solver.specs.Phases.{number_of_phase};
 ghost use Rattle.solver.specs.Scalars.{place_of};
 ghost use Rattle.solver.specs.Tables.{table_of, with_table, start_of, end_of};
@@ -13,7 +14,9 @@ use crate::MEMORY_LEN;
 use crate::phase::Phase;
 use crate::scalar::Scalar;
 use dimacs::read::{Counts, Fault, read_formula};
+use formula::clause::{Place, literals_at};
 use formula::table::{clear, get, part, put};
+use search::plain;
 use std::ops::Range;
 
 pub type Memory = [u64; MEMORY_LEN];
@@ -103,6 +106,13 @@ pub fn write(m: &mut Memory, s: Scalar, value: u64)
     put_in(m, Table::Scalars, s.place(), value)
 }
 
+// Whether proofs are written.
+pub fn is_proving(m: &Memory) -> bool
+    ensures { result ≡ (proving (view m.now) == 1) }
+{
+    read(m, Scalar::Proving) == 1
+}
+
 pub fn set_phase(m: &mut Memory, phase: Phase)
     ensures { view m.new ≡ with_phase (view m.old) (number_of_phase phase) }
 {
@@ -124,6 +134,14 @@ pub fn clear_core(m: &mut Memory)
     ensures { view m.new ≡ with_core (view m.old) (zeros 1024) }
 {
     change(m, Table::Core, clear)
+}
+
+// A clause of the arena, seen in the search's table.
+pub fn see_clause(m: &mut Memory, place: Place)
+    ensures { view m.new ≡ with_work (view m.old) (see (view m.old).work (take place.len (drop place.start (view m.old).arena))) }
+{
+    let (formula, work) = m.split_at_mut(Table::Work.range().start);
+    plain::see(work, literals_at(&formula[Table::Arena.range()], place));
 }
 
 // A file's clauses, written into the arena behind the others.

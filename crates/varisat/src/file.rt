@@ -19,7 +19,7 @@ pub enum NotTaken {
 }
 
 // One byte more than the longest file is asked for, to see whether there is more.
-pub fn bytes_of<R: Read + Drop>(heap: Global, source: R) -> Result<Vec<u8>, NotTaken>
+pub(crate) fn bytes_of<R: Read + Drop>(heap: Global, source: R) -> Result<Vec<u8>, NotTaken>
     ensures short { IfOk result (λ bytes. vec_len bytes ≤ 1048576) }
     ensures whole { IfSome (R.remaining source) (λ all. IfOk result (λ bytes. bytes.items ≡ all)) }
     ensures long { result ≡ Err TooLong → IfSome (R.remaining source) (λ all. 1048576 < length all) }
@@ -37,7 +37,7 @@ pub fn bytes_of<R: Read + Drop>(heap: Global, source: R) -> Result<Vec<u8>, NotT
 }
 
 // The bytes of a file by its name.
-pub fn read_file(rt: &HostRuntime, name: &str) -> Result<Vec<u8>, NotTaken>
+pub(crate) fn read_file(rt: &HostRuntime, name: &str) -> Result<Vec<u8>, NotTaken>
     ensures { IfOk result (λ bytes. vec_len bytes ≤ 1048576) }
 {
     bytes_of(rt.alloc(), fs::open(rt, name)?)

@@ -7,7 +7,7 @@ use formula::literal::{is_negated, literal, variable};
 use std::fmt;
 
 // The machine's number of a literal, if it fits.
-pub fn number_of(name: u64, negated: bool) -> Option<u64>
+pub(crate) fn number_of(name: u64, negated: bool) -> Option<u64>
     requires { 1 ≤ name }
     ensures { SomeIff result (2 * (name - 1) + (if negated then 1 else 0) < 2 ^ 64) (2 * (name - 1) + (if negated then 1 else 0)) }
 {

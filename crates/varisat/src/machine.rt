@@ -8,13 +8,13 @@ use solver::MEMORY_LEN;
 use solver::run::{End, Output, run};
 use std::alloc::{AllocError, Global};
 
-#[derive(Drop)]
+#[derive(Clone, Drop)]
 pub struct Machine {
     memory: Vec<u64>,
 }
 
 impl Machine {
-    pub fn new(heap: Global) -> Result<Machine, AllocError>
+    pub(crate) fn new(heap: Global) -> Result<Machine, AllocError>
         ensures { IfOk result (λ m. m.memory.items ≡ own.start) }
     {
         let mut memory = vec![in heap; 0; MEMORY_LEN]?;
@@ -23,7 +23,7 @@ impl Machine {
     }
 
     // A command driven to its end, or as far as the budget of steps goes.
-    pub fn drive<O: Output>(
+    pub(crate) fn drive<O: Output>(
         &mut self,
         kind: u64,
         row: &[u64],

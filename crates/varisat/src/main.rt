@@ -14,6 +14,7 @@ mod literal;
 mod machine;
 mod options;
 mod printer;
+mod proof;
 mod refusal;
 mod request;
 mod session;

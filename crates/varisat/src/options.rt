@@ -17,6 +17,8 @@ pub struct Options {
     // A path, or "-" for standard input.
     pub file: String,
     pub assumed: Vec<u64>,
+    // Where the proof goes, if one is wanted.
+    pub proof: Option<String>,
     pub model: bool,
     pub stats: bool,
 }
@@ -32,6 +34,9 @@ pub enum Misuse {
     // Not literals.
     #[error("--assume: {0}")]
     Assumptions(#[from] Mistake),
+    // Assumptions, and a proof that can't rest on them.
+    #[error("--proof and --assume don't go together: nothing is assumed while a proof is written")]
+    AssumingInProof,
     // A word more than is wanted.
     #[error("{0:?} is one word too many; see varisat --help")]
     Extra(String),
@@ -42,7 +47,7 @@ pub enum Misuse {
 }
 
 // The task of the words behind the program's name.
-pub fn task_of(heap: Global, words: &[String]) -> Result<Task, Misuse> {
+pub(crate) fn task_of(heap: Global, words: &[String]) -> Result<Task, Misuse> {
     let [first, rest @ ..] = words else {
         return Ok(Task::Usage);
     };
@@ -61,6 +66,7 @@ pub fn task_of(heap: Global, words: &[String]) -> Result<Task, Misuse> {
 fn options_of(heap: Global, words: &[String]) -> Result<Options, Misuse> {
     let mut file = None;
     let mut assumed = Vec::new(heap);
+    let mut proof = None;
     let mut model = true;
     let mut stats = false;
     let mut words = words.iter();
@@ -69,6 +75,10 @@ fn options_of(heap: Global, words: &[String]) -> Result<Options, Misuse> {
             "--assume" => {
                 let text = words.next().ok_or(Misuse::Missing("--assume"))?;
                 assumed = parse_literals(heap, text.as_str())?;
+            }
+            "--proof" => {
+                let name = words.next().ok_or(Misuse::Missing("--proof"))?;
+                proof = Some(name.clone()?);
             }
             "--no-model" => model = false,
             "--stats" => stats = true,
@@ -80,9 +90,13 @@ fn options_of(heap: Global, words: &[String]) -> Result<Options, Misuse> {
         }
     }
     let file = file.ok_or(Misuse::NoFile)?;
+    if proof.is_some() && !assumed.is_empty() {
+        return Err(Misuse::AssumingInProof);
+    }
     Ok(Options {
         file,
         assumed,
+        proof,
         model,
         stats,
     })

@@ -14,6 +14,7 @@ use std::io::{BufWriter, Stdout, Write};
 pub enum Style {
     // Nothing but that it is done.
     Done,
+    // A number, behind what is written before it is known.
     Number,
     // A variable, shown from 0 and printed from 1.
     Variable,
@@ -29,14 +30,14 @@ pub struct Printer {
 }
 
 impl Printer {
-    pub fn new(alloc: Global, out: Stdout) -> io::Result<Printer> {
+    pub(crate) fn new(alloc: Global, out: Stdout) -> io::Result<Printer> {
         Ok(Printer {
             out: BufWriter::new(alloc, out)?,
         })
     }
 
     // The sink of an answer of this style, which is then to be ended.
-    pub fn sink(&mut self, style: Style) -> Sink<'_>
+    pub(crate) fn sink(&mut self, style: Style) -> Sink<'_>
         ensures { result.style ≡ style }
     {
         Sink {
@@ -46,7 +47,7 @@ impl Printer {
     }
 
     // A line of its own, printed at once.
-    pub fn line<D: Display + Drop>(&mut self, text: D) -> io::Result<()> {
+    pub(crate) fn line<D: Display + Drop>(&mut self, text: D) -> io::Result<()> {
         self.out.writeln(text)?;
         self.out.flush()
     }
@@ -60,7 +61,7 @@ pub struct Sink<'a> {
 
 impl Sink<'_> {
     // The end of the answer. Who asked may wait for it, so all of it is printed now.
-    pub fn end(self) -> io::Result<()> {
+    pub(crate) fn end(self) -> io::Result<()> {
         match self.style {
             Style::Done => self.out.write_all(b"ok\n")?,
             Style::Number | Style::Variable => self.out.write_all(b"\n")?,

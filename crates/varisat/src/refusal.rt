@@ -39,7 +39,7 @@ pub enum Refusal {
 
 impl Refusal {
     // The reason that a number and what was shown with it stand for.
-    pub fn of(number: u64, shown: &[u64]) -> Refusal
+    pub(crate) fn of(number: u64, shown: &[u64]) -> Refusal
         ensures number { number_of result ≡ number }
         ensures shown { ShownWith result shown.now }
     {

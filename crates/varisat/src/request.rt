@@ -6,6 +6,7 @@ ghost use Rattle.varisat.specs.Requests.{Asked};
 use crate::literal::number_of;
 use solver::MAX_LEN;
 use std::alloc::{AllocError, Global};
+use std::io;
 use std::num::IntErrorKind;
 use std::str::{SplitWhitespace, Utf8Error};
 use thiserror::Error;
@@ -51,13 +52,18 @@ pub enum Mistake {
     Unreadable(String),
     #[error("{0:?} is longer than {max} bytes", max = MAX_LEN)]
     FileTooLong(String),
+    #[error("{0:?} can't be written: {1}")]
+    Unwritable(String, io::Error),
+    // A proof that was begun and can't be ended.
+    #[error("the rest of the proof can't be written: {0}")]
+    LostProof(io::Error),
     #[error("the steps are used up")]
     OutOfSteps,
     #[error("there is no memory for it")]
     NoMemory(#[from(alloc)] AllocError),
 }
 
-pub fn parse(heap: Global, line: &str) -> Result<Request, Mistake> {
+pub(crate) fn parse(heap: Global, line: &str) -> Result<Request, Mistake> {
     let line = line.trim();
     if line.is_empty() || line.starts_with('#') {
         return Ok(Request::Nothing);
@@ -168,7 +174,7 @@ fn parse_row(heap: Global, text: &str) -> Result<Vec<u64>, Mistake>
 }
 
 // Literals with no 0 behind them.
-pub fn parse_literals(heap: Global, text: &str) -> Result<Vec<u64>, Mistake>
+pub(crate) fn parse_literals(heap: Global, text: &str) -> Result<Vec<u64>, Mistake>
     ensures { IfOk result (λ row. vec_len row ≤ 1048576) }
 {
     match literals(heap, &mut text.split_whitespace())? {

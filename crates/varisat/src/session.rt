@@ -3,6 +3,7 @@
 use crate::file::{NotTaken, read_file};
 use crate::machine::Machine;
 use crate::printer::{Printer, Style};
+use crate::proof::ProofFile;
 use crate::refusal::{Answer, Refusal};
 use crate::request::{Mistake, Request, parse};
 use crate::usage;
@@ -20,6 +21,8 @@ struct Session {
     rt: HostRuntime,
     machine: Machine,
     printer: Printer,
+    // Where a proof goes, if not to standard output.
+    proof: Option<ProofFile>,
     // The number of the line that is answered, from 1.
     line: u64,
 }
@@ -30,6 +33,7 @@ impl Session {
             rt: *rt,
             machine: Machine::new(rt.alloc())?,
             printer: Printer::new(rt.alloc(), rt.stdout())?,
+            proof: None,
             line: 0,
         })
     }
@@ -57,13 +61,13 @@ impl Session {
             Request::New => self.run(Kind::NewVar, &[], Style::Variable),
             Request::Add(row) => self.run(Kind::Add, row.as_slice(), Style::Done),
             Request::Assume(row) => self.run(Kind::Assume, row.as_slice(), Style::Done),
-            Request::Solve => self.run(Kind::Solve, &[], Style::Number),
+            Request::Solve => self.run_solve(),
             Request::Model => self.run(Kind::Model, &[], Style::Literals),
             Request::Core => self.run(Kind::Core, &[], Style::Literals),
             Request::Read(file) => self.run_read(file),
             Request::Print => self.run(Kind::Print, &[], Style::Text),
-            // The file is for when the machine knows of proofs.
-            Request::Prove(_) => self.run(Kind::Prove, &[], Style::Done),
+            Request::Prove(None) => self.run(Kind::Prove, &[], Style::Done),
+            Request::Prove(Some(file)) => self.run_prove(file),
             Request::Help => self.printer.line(usage::COMMANDS),
             Request::Nothing => Ok(()),
         }
@@ -78,6 +82,48 @@ impl Session {
         match end {
             End::Finished => sink.end(),
             _ => self.end_early(end, &[]),
+        }
+    }
+
+    // With a file for the proof, the answer is told once all of the proof stands there.
+    fn run_solve(&mut self) -> io::Result<()> {
+        let Some(proof) = &mut self.proof else {
+            return self.run(Kind::Solve, &[], Style::Number);
+        };
+        let mut sink = proof.sink();
+        let end = self
+            .machine
+            .drive(u64::from(Kind::Solve), &[], &[], BUDGET, &mut sink);
+        match sink.end() {
+            Ok(Some(answer)) => self.printer.line(answer),
+            Ok(None) => self.end_early(end, &[]),
+            Err(error) => {
+                self.complain(Mistake::LostProof(error))?;
+                Err(error)
+            }
+        }
+    }
+
+    // The machine is asked first, since a file is emptied only for a proof that will be written. If there can be no
+    // such file, the machine is put back as it was.
+    fn run_prove(&mut self, file: String) -> io::Result<()> {
+        let before = self.machine.clone()?;
+        let mut sink = self.printer.sink(Style::Done);
+        let end = self
+            .machine
+            .drive(u64::from(Kind::Prove), &[], &[], BUDGET, &mut sink);
+        if !matches!(end, End::Finished) {
+            return self.end_early(end, &[]);
+        }
+        match ProofFile::create(&self.rt, file.as_str()) {
+            Ok(proof) => {
+                self.proof = Some(proof);
+                sink.end()
+            }
+            Err(error) => {
+                self.machine = before;
+                self.complain(Mistake::Unwritable(file, error))
+            }
         }
     }
 
@@ -113,7 +159,7 @@ impl Session {
 }
 
 // Answers the lines of standard input until it ends.
-pub fn serve(rt: &HostRuntime) -> io::Result<()> {
+pub(crate) fn serve(rt: &HostRuntime) -> io::Result<()> {
     let mut session = Session::new(rt)?;
     let input = BufReader::new(rt.alloc(), rt.stdin())?;
     for line in input.split(rt.alloc(), b'\n') {

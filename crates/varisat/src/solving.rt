@@ -4,10 +4,11 @@ use crate::file::{NotTaken, bytes_of, read_file};
 use crate::literal::Literal;
 use crate::machine::Machine;
 use crate::options::Options;
+use crate::proof::ProofFile;
 use crate::refusal::{Placed, Refusal};
 use solver::collected::Collected;
 use solver::kind::Kind;
-use solver::run::End;
+use solver::run::{End, Output};
 use std::alloc::AllocError;
 use std::io;
 use std::io::{BufWriter, Stdout, Write};
@@ -24,6 +25,9 @@ const PER_LINE: usize = 10;
 pub enum Trouble {
     #[error("{0}: {1}")]
     NotTaken(String, NotTaken),
+    // A proof that couldn't be written.
+    #[error("{0}: {1}")]
+    Unwritten(String, io::Error),
     #[error("{0}{1}")]
     Wrong(String, Placed),
     #[error("--assume{0}")]
@@ -57,12 +61,11 @@ impl<'a> Solving<'a> {
         })
     }
 
-    // A command taken to its end, and what it showed.
-    fn say(&mut self, kind: Kind, row: &[u64], bytes: &[u8]) -> Result<Vec<u64>, Refusal> {
-        let mut told = Collected::new(self.rt.alloc());
+    // A command taken to its end, with what it tells handed to the sink.
+    fn drive<O: Output>(&mut self, kind: Kind, row: &[u64], bytes: &[u8], out: &mut O) -> End {
         let mut end = self
             .machine
-            .drive(u64::from(kind), row, bytes, PROGRESS, &mut told);
+            .drive(u64::from(kind), row, bytes, PROGRESS, out);
         // Nothing bounds a search, and a loop must end, so its turns are counted.
         for _ in 0..u64::MAX {
             if !matches!(end, End::Unfinished) {
@@ -73,9 +76,15 @@ impl<'a> Solving<'a> {
             let _ = eprintln!(self.rt; "c {steps} steps");
             end = self
                 .machine
-                .drive(u64::from(Kind::GoOn), &[], &[], PROGRESS, &mut told);
+                .drive(u64::from(Kind::GoOn), &[], &[], PROGRESS, out);
         }
-        match end {
+        end
+    }
+
+    // A command taken to its end, and what it showed.
+    fn say(&mut self, kind: Kind, row: &[u64], bytes: &[u8]) -> Result<Vec<u64>, Refusal> {
+        let mut told = Collected::new(self.rt.alloc());
+        match self.drive(kind, row, bytes, &mut told) {
             End::Refused(number) => Err(Refusal::of(number, told.shown.as_slice())),
             End::Finished | End::Unfinished | End::Lost => Ok(told.shown),
         }
@@ -84,6 +93,14 @@ impl<'a> Solving<'a> {
     // What a command shows that isn't refused where it is asked.
     fn ask(&mut self, kind: Kind) -> Result<Vec<u64>, Trouble> {
         self.say(kind, &[], &[]).map_err(|_| Trouble::Unanswered)
+    }
+
+    // With a file for a proof, one is written from here on.
+    fn prove(&mut self) -> Result<(), Trouble> {
+        if self.options.proof.is_some() {
+            self.ask(Kind::Prove)?;
+        }
+        Ok(())
     }
 
     fn read(&mut self, bytes: &[u8]) -> Result<(), Trouble> {
@@ -110,12 +127,30 @@ impl<'a> Solving<'a> {
     }
 
     fn solve(&mut self) -> Result<(), Trouble> {
-        match self.ask(Kind::Solve)?.as_slice() {
-            [1] => self.print_yes()?,
-            [_] => self.print_no()?,
-            _ => return Err(Trouble::Unanswered),
+        match self.answer()? {
+            Some(1) => self.print_yes()?,
+            Some(_) => self.print_no()?,
+            None => return Err(Trouble::Unanswered),
         }
         Ok(self.out.flush()?)
+    }
+
+    // The answer; if a proof is wanted, once all of it stands in its file.
+    fn answer(&mut self) -> Result<Option<u64>, Trouble> {
+        let Some(file) = &self.options.proof else {
+            return Ok(self.ask(Kind::Solve)?.first().copied());
+        };
+        match self.solve_into(file.as_str()) {
+            Ok(answer) => Ok(answer),
+            Err(error) => Err(Trouble::Unwritten(file.clone()?, error)),
+        }
+    }
+
+    fn solve_into(&mut self, file: &str) -> io::Result<Option<u64>> {
+        let mut proof = ProofFile::create(&self.rt, file)?;
+        let mut sink = proof.sink();
+        let _ = self.drive(Kind::Solve, &[], &[], &mut sink);
+        sink.end()
     }
 
     fn print_yes(&mut self) -> Result<(), Trouble> {
@@ -163,9 +198,10 @@ fn take_file(rt: &HostRuntime, name: &str) -> Result<Vec<u8>, Trouble> {
 }
 
 // Reads a file, solves it under what is assumed, and prints the answer.
-pub fn solve_file(rt: &HostRuntime, options: &Options) -> Result<(), Trouble> {
+pub(crate) fn solve_file(rt: &HostRuntime, options: &Options) -> Result<(), Trouble> {
     let bytes = take_file(rt, options.file.as_str())?;
     let mut solving = Solving::new(rt, options)?;
+    solving.prove()?;
     solving.read(bytes.as_slice())?;
     solving.assume()?;
     solving.solve()

@@ -13,6 +13,7 @@ usage: varisat [OPTIONS] FILE.cnf   solve a file in DIMACS form; - is standard i
 
 options:
   --assume \"2 -1\"   literals to be true for this solving; at a no, a line `c core` tells those that can't be
+  --proof FILE      a proof is written to FILE, in DRAT's text form; not together with --assume
   --no-model        no `v` lines
   --stats           comments on what was read
 
@@ -25,10 +26,12 @@ commands, with variables from 1 and a minus for negation:
   core              assumptions that can't all be true, ended by 0
   read FILE         the clauses of a file; the numbers of variables and of clauses are told
   print             the clauses as a file has them
-  prove [FILE]      not known yet: refused with 2
+  prove [FILE]      to be said first: each solve then writes its proof, in DRAT's text form, to FILE or, with no FILE,
+                    in front of its 1 or 0. Nothing can be assumed then, and nothing added once it is solved.
+                    If FILE can't be made nothing changes; if it can't be written to later, the program ends
   help              the commands
   # ...             a comment
 ";
 
 pub const COMMANDS: &str =
-    "new | add LITERALS 0 | assume LITERALS 0 | solve | model | core | read FILE | print | help | # a comment";
+    "new | add LITERALS 0 | assume LITERALS 0 | solve | model | core | read FILE | print | prove [FILE] | help | # a comment";
