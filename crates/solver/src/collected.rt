@@ -1,6 +1,6 @@
 // The sink that keeps what a command shows and writes, in the order in which it came.
 // It promises that what it holds grows by just what it is told.
-ghost use Rattle.std.specs.Prelude.{◌≡◌, ◌++◌};
+ghost use Rattle.std.specs.Prelude.{◌≡◌, [], ◌++◌};
 ghost use Rattle.solver.specs.Collected.{grown, grown_by_nothing};
 
 use crate::run::Output;
@@ -13,7 +13,10 @@ pub struct Collected {
 }
 
 impl Collected {
-    pub fn new(heap: Global) -> Collected {
+    pub fn new(heap: Global) -> Collected
+        ensures shown { result.shown.items ≡ [] }
+        ensures written { result.written.items ≡ [] }
+    {
         Collected {
             shown: Vec::new(heap),
             written: Vec::new(heap),
