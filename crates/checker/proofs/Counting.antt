@@ -1,6 +1,7 @@
 -- Clauses that stand, and how many of a row there are, as clauses are added and deleted.
 use Rattle.std.proofs.Common.{◌≡◌, ℕ, zero, suc, ◌+◌, ◌<◌, ◌≤◌, Bool, true, false, List, [], ◌∷◌, ◌++◌, length, get_or, set, Some, None, Option, MatchOption, Bor, refl, ap, inl, inr, arith}
 use mathlib.Core.Bool.{false≢true}
+use Rattle.std.specs.List.{AllWithin, HoldsAt}
 use Rattle.std.proofs.lemmas.Bool.{cases_lt}
 use Rattle.std.proofs.lemmas.List.{get_or_past}
 use Rattle.formula.specs.Logic.{those, Clause, same_row, without, by_propagation}
@@ -64,10 +65,10 @@ pub none_past : (rs : Rows) (c : Clause) (n : ℕ) → length rs ≤ n → ((i :
 none_past rs c n h g i = elim (cases_lt i n) [ inl l ↦ g i l | inr l ↦ ap (is_copy c) (get_or_past rs i None (omega arith)) ]
 
 -- a look at each finds one, or there is none
-pub found_scan : (rs : Rows) (c : Clause) (o : Option ℕ) (a n : ℕ) → a ≡ 0 → length rs ≤ n →
-    MatchOption o ((k : ℕ) → a ≤ k → k < n → copy_at rs c k ≡ false) (λ i. (a ≤ i) × (i < n) × (copy_at rs c i ≡ true) × ((k : ℕ) → a ≤ k → k < i → copy_at rs c k ≡ false)) → Found rs c o
-found_scan rs c None a n z h f = none_past rs c n h (λ i l. f i (omega arith) l)
-found_scan rs c (Some i) a n z h f = f.2
+pub found_scan : (rs : Rows) (c : Clause) (o : Option ℕ)
+    → MatchOption o (AllWithin (λ r. is_copy c r ≡ false) rs 0 (length rs)) (λ i. (i < length rs) × HoldsAt (λ r. is_copy c r ≡ true) rs i × AllWithin (λ r. is_copy c r ≡ false) rs 0 i) → Found rs c o
+found_scan rs c None f = none_past rs c (length rs) (omega arith) (λ i l. f i None (omega arith) l)
+found_scan rs c (Some i) f = f.1 None
 
 -- COPIES, one clause more
 pub copies_one : (e c : Clause) (cs : List Clause) → same_row e c ≡ true → copies e (c ∷ cs) ≡ copies e cs + 1

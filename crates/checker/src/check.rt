@@ -6,6 +6,7 @@ ghost use Rattle.checker.specs.Input.{step_of, formula_of, steps_of};
 ghost use Rattle.checker.specs.Going.{Going, GoesOn};
 ghost use Rattle.checker.specs.Right.{Right};
 
+use crate::chains::Chains;
 use crate::clauses::Clauses;
 use crate::input::{Action, Input, ProofStep};
 use crate::propagate::Propagator;
@@ -55,8 +56,9 @@ impl<'a> Checker<'a> {
         ensures { IfOk result (λ k. Going input.now k.clauses.rows.items k.propagator.trail 0) }
     {
         let count = literal_count(&input.formula).max(literal_count(&input.steps));
+        let chains = Chains::new(heap, input.formula.len() | input.steps.len())?;
         let mut checker = Checker {
-            clauses: Clauses::new(heap),
+            clauses: Clauses::new(heap, chains),
             propagator: Propagator::new(heap, count)?,
         };
         for step in &input.formula {

@@ -2,18 +2,18 @@
 // with the same literals, or that there is none.
 ghost use Rattle.std.specs.Prelude.{◌≡◌, true, ◌∷◌, ◌++◌, [], Some, None, IfSome, OnOk, slice_index_or};
 ghost use Rattle.formula.specs.Logic.{every, has, same_row};
-ghost use Rattle.checker.specs.Standing.{copy_at, Found, Deleted};
+ghost use Rattle.checker.specs.Standing.{is_copy, copy_at, Found, Deleted};
 
+use crate::chains::Chains;
 use formula::clause::contains;
 use std::alloc::{AllocError, Global};
-use std::collections::HashMap;
+use std::iter::successors;
 
 #[derive(Drop)]
 pub struct Clauses<'a> {
     // The literals of each clause by its number, or none once it is deleted.
     rows: Vec<Option<&'a [u64]>>,
-    // The clauses by a hash of their literals. This is there for speed, and nothing rests on it.
-    by_hash: HashMap<u64, Vec<usize>>,
+    chains: Chains,
 }
 
 fn is_within(clause: &[u64], other: &[u64]) -> bool
@@ -22,27 +22,29 @@ fn is_within(clause: &[u64], other: &[u64]) -> bool
     clause.iter().all(|lit| contains(other, *lit))
 }
 
+#[inline(always)]
 fn has_same_literals(clause: &[u64], other: &[u64]) -> bool
     ensures { result ≡ same_row clause.now other.now }
 {
     is_within(clause, other) && is_within(other, clause)
 }
 
-// The same for each order of the literals.
-fn hash(clause: &[u64]) -> u64 {
-    clause.iter().fold(0, |sum: u64, lit| {
-        let x = lit.wrapping_mul(0x9e37_79b9_7f4a_7c15);
-        sum.wrapping_add(x ^ (x >> 29))
-    })
+// Whether a clause that stands has these literals. A match and in line, like the test above, since `scan` asks it of each.
+#[inline(always)]
+fn is_copy(clause: &[u64], row: Option<&[u64]>) -> bool
+    ensures { result ≡ is_copy clause.now row.entry }
+{
+    matches!(row, Some(row) if has_same_literals(clause, row))
 }
 
 impl<'a> Clauses<'a> {
-    pub fn new(heap: Global) -> Clauses<'a>
+    // No clauses yet, and chains for them.
+    pub fn new(heap: Global, chains: Chains) -> Clauses<'a>
         ensures { result.rows.items ≡ [] }
     {
         Clauses {
             rows: Vec::new(heap),
-            by_hash: HashMap::new(heap),
+            chains,
         }
     }
 
@@ -57,38 +59,28 @@ impl<'a> Clauses<'a> {
     pub fn push(&mut self, clause: &'a [u64]) -> Result<(), AllocError>
         ensures { OnOk result (self.new.rows.items ≡ self.old.rows.items ++ Some clause.entry ∷ []) }
     {
-        let id = self.rows.len();
-        self.by_hash.entry(hash(clause))?.or_default().push(id)?;
+        self.chains.push(clause)?;
         self.rows.push(Some(clause))?;
         Ok(())
-    }
-
-    fn is_copy(&self, clause: &[u64], id: usize) -> bool
-        ensures { result ≡ copy_at self.now.rows.items clause.now id }
-    {
-        self.get(id)
-            .is_some_and(|row| has_same_literals(clause, row))
     }
 
     // By a look at each, so that nothing rests on the hashes.
     fn scan(&self, clause: &[u64]) -> Option<usize>
         ensures { Found self.now.rows.items clause.now result }
     {
-        (0..self.rows.len()).find(|id| self.is_copy(clause, *id))
+        self.rows.iter().position(|row| is_copy(clause, *row))
     }
 
-    // By the hash, the latest first.
+    // By its chain, the latest first. A chain is no longer than all that there are, so that the search for one ends.
     fn lookup(&self, clause: &[u64]) -> Option<usize>
         ensures { IfSome result (λ i. copy_at self.now.rows.items clause.now i ≡ true) }
     {
-        let ids = self.by_hash.get(&hash(clause))?;
-        ids.iter()
-            .rev()
-            .copied()
-            .find(|id| self.is_copy(clause, *id))
+        successors(self.chains.latest(clause), |id| self.chains.before(*id))
+            .take(self.rows.len())
+            .find(|id| is_copy(clause, self.get(*id)))
     }
 
-    // One that stands with these literals, by the hash, and if that has none by a look at each.
+    // One that stands with these literals, by its chain, and if that has none by a look at each.
     fn find_copy(&self, clause: &[u64]) -> Option<usize>
         ensures { Found self.now.rows.items clause.now result }
     {

@@ -2,6 +2,7 @@
 // A "yes" rests on the contract of `verify::verify`; watch lists and hashes are there for speed and nothing else.
 #![tactic(auto)]
 
+mod chains;
 pub mod check;
 mod clauses;
 pub mod input;

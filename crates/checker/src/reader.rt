@@ -8,7 +8,6 @@ ghost use Rattle.checker.specs.Views.{building_of, state_of};
 use crate::input::{Action, ProofStep};
 use crate::lexer::{Lexer, Token, next};
 use std::alloc::{AllocError, Global};
-use std::mem;
 
 // What is read.
 #[derive(Clone, Copy, PartialEq, Eq)]
@@ -92,7 +91,9 @@ impl Reader {
         ensures lexer { self.new.lexer ≡ self.old.lexer }
         ensures after { OnOk result (taken self.old.source (building_of self.old) Token.Zero ≡ Some (building_of self.new)) }
     {
-        let clause = mem::try_take(&mut self.part)?;
+        // The copy takes no more room than it needs, and the part's room serves the next step.
+        let clause = Vec::from_slice(*self.part.allocator(), &self.part)?;
+        self.part.clear();
         self.steps.push(ProofStep {
             line: self.start,
             action: self.action,

@@ -24,7 +24,7 @@ pub fn literals_at(table: &[u64], place: Place) -> &[u64]
 pub fn contains(clause: &[u64], lit: u64) -> bool
     ensures { result ≡ has clause.now lit }
 {
-    clause.contains(&lit)
+    clause.iter().any(|x| *x == lit)
 }
 
 // The clause written at a place as its length and then its literals.

@@ -200,10 +200,9 @@ pub fn model_literal(work: &[u64], var: u64) -> u64
 }
 
 // Whether an assumption is marked.
-#[tactic(auto, using(crate::proofs::Scans::some_marked_take))]
 pub fn some_marked(marks: &[u64], assumptions: &[u64]) -> bool
     ensures { result ≡ not (none_of (marked marks.now assumptions.now)) }
 {
     let len = marks.len().min(assumptions.len());
-    marks[..len].contains(&MARKED)
+    marks[..len].iter().any(|mark| *mark == MARKED)
 }

@@ -112,12 +112,35 @@ impl Session {
     }
 }
 
+// The lines of a source, one at a time, all in one buffer: `split` takes memory anew for each.
+#[derive(Drop)]
+struct Lines<R> {
+    source: R,
+    line: Vec<u8>,
+}
+
+impl<R: BufRead + Drop> Lines<R> {
+    // The next line, with its line break.
+    fn next(&mut self) -> io::Result<Option<&[u8]>> {
+        self.line.clear();
+        let len = self.source.read_until(b'\n', &mut self.line)?;
+        Ok((len > 0).then_some(self.line.as_slice()))
+    }
+}
+
 // Answers the lines of standard input until it ends.
 pub fn serve(rt: &HostRuntime) -> io::Result<()> {
     let mut session = Session::new(rt)?;
-    let input = BufReader::new(rt.alloc(), rt.stdin())?;
-    for line in input.split(rt.alloc(), b'\n') {
-        session.take(line?.as_slice())?;
+    let mut lines = Lines {
+        source: BufReader::new(rt.alloc(), rt.stdin())?,
+        line: Vec::new(rt.alloc()),
+    };
+    // Nothing says that a source ends, and a loop must, so the lines are counted.
+    for _ in 0..u64::MAX {
+        let Some(line) = lines.next()? else {
+            break;
+        };
+        session.take(line)?;
     }
     Ok(())
 }

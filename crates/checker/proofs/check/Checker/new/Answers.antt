@@ -9,7 +9,7 @@ use Rattle.checker.proofs.check.Checker.new.Goals as goal
 
 pub loop-step-init : goal.loop-step-init
 unfolding standing
-loop-step-init c = (ap standing c.new.ensures, c.in_ok-new.ensures)
+loop-step-init c = (ap standing c.new-2.ensures, c.in_ok-new.ensures)
 
 pub loop-step-preserved : goal.loop-step-preserved
 loop-step-preserved c = (
