@@ -121,7 +121,9 @@ impl Reader {
         ensures source { self.new.source ≡ self.old.source }
         ensures after { OnOk result (is_some (taken self.old.source (building_of self.old) token) ≡ true → taken self.old.source (building_of self.old) token ≡ Some (building_of self.new)) }
     {
-        self.note_line();
+        if !matches!(token, Token::Quiet) {
+            self.note_line();
+        }
         match token {
             Token::Quiet | Token::LetterP => {}
             Token::Literal(lit) => self.part.push(lit)?,
@@ -141,7 +143,9 @@ impl Reader {
             line: self.line,
             byte,
         };
-        let (lexer, token) = next(self.lexer, byte).ok_or(refused)?;
+        let Some((lexer, token)) = next(self.lexer, byte) else {
+            return Err(refused);
+        };
         if !self.allows(token) {
             return Err(refused);
         }
