@@ -64,11 +64,17 @@ copy_row c (Some r) h = (r, refl, h)
 pub none_past : (rs : Rows) (c : Clause) (n : ℕ) → length rs ≤ n → ((i : ℕ) → i < n → copy_at rs c i ≡ false) → (i : ℕ) → copy_at rs c i ≡ false
 none_past rs c n h g i = elim (cases_lt i n) [ inl l ↦ g i l | inr l ↦ ap (is_copy c) (get_or_past rs i None (omega arith)) ]
 
--- a look at each finds one, or there is none
-pub found_scan : (rs : Rows) (c : Clause) (o : Option ℕ)
+-- a look at each number finds one, or there is none
+pub found_scan : (rs : Rows) (c : Clause) (o : Option ℕ) (a n : ℕ) → a ≡ 0 → length rs ≤ n →
+    MatchOption o ((k : ℕ) → a ≤ k → k < n → copy_at rs c k ≡ false) (λ i. (a ≤ i) × (i < n) × (copy_at rs c i ≡ true) × ((k : ℕ) → a ≤ k → k < i → copy_at rs c k ≡ false)) → Found rs c o
+found_scan rs c None a n z h f = none_past rs c n h (λ i l. f i (omega arith) l)
+found_scan rs c (Some i) a n z h f = f.2
+
+-- and so does a look at each row
+pub found_position : (rs : Rows) (c : Clause) (o : Option ℕ)
     → MatchOption o (AllWithin (λ r. is_copy c r ≡ false) rs 0 (length rs)) (λ i. (i < length rs) × HoldsAt (λ r. is_copy c r ≡ true) rs i × AllWithin (λ r. is_copy c r ≡ false) rs 0 i) → Found rs c o
-found_scan rs c None f = none_past rs c (length rs) (omega arith) (λ i l. f i None (omega arith) l)
-found_scan rs c (Some i) f = f.1 None
+found_position rs c None f = found_scan rs c None 0 (length rs) refl (omega arith) (λ k l m. f k None l m)
+found_position rs c (Some i) f = found_scan rs c (Some i) 0 (length rs) refl (omega arith) (omega arith, f.0, f.1 None, λ k l m. f.2 k None l m)
 
 -- COPIES, one clause more
 pub copies_one : (e c : Clause) (cs : List Clause) → same_row e c ≡ true → copies e (c ∷ cs) ≡ copies e cs + 1
